@@ -1,0 +1,106 @@
+-- The three demands, as types over the definitions. They are stated here and proved of the kit later.
+use Prim.Native.Nat.{ℕ, _+_, _≤_, _<_}
+use mathlib.Core.Bool.{Bool, true, false, _||_}
+use mathlib.Core.List.{List, [], _∷_}
+use mathlib.Core.Logic.{_↔_}
+use mathlib.Core.Path.{_≡_}
+use lib.Dec.{T, eqb, ltb}
+use lib.ListN.{length}
+use Rattle.paper.specs.Units.{Byte, Text, Number, Line, Class, Factor, Whole}
+use Rattle.paper.specs.Days.{sum}
+use Rattle.paper.specs.Text.{every}
+use Rattle.paper.specs.Rows.{PriorityRow, Tables}
+use Rattle.paper.specs.Refusals.{isFactor, refused, accepted}
+use Rattle.paper.specs.Offsetting.{Book, position, taken, offsetRow, offsetAll}
+use Rattle.paper.specs.Report.{reportOf}
+use Rattle.paper.specs.Answer.{Answer, answer, numberOf, left}
+use Rattle.paper.specs.Tables.{sheetOf, Admitted}
+
+-- A kit: a sheet and a lent buffer to the number that it returns and the buffer as it then is
+abbrev pub Kit : Type 0
+Kit = Text → Text → ℕ × Text
+
+-- A text of bytes: each is 0..255
+abbrev pub IsBytes : Text → Type 0
+IsBytes t = T (every (λ b. ltb b 256) t)
+
+-- A kit gives an answer to a sheet and a buffer: its number, and its bytes in the buffer
+abbrev pub Gives : Kit → Text → Text → Answer → Type 0
+Gives kit sheet buffer a = kit sheet buffer ≡ (numberOf a, left a buffer)
+
+-- What an answer may be: a refusal 1..12 at a line below 65,536, or a report of at most 32,768 bytes
+-- The number returned then tells which of the two it is, and the refusal from its line
+abbrev pub IsAnswer : Answer → Type 0
+IsAnswer (refused number line) = (1 ≤ number) × (number ≤ 12) × (line < 65_536)
+IsAnswer (accepted report) = length report ≤ 32_768
+
+-- Demand 1. The kit answers every sheet of bytes and ends. A bad sheet is refused by number and line, and a refusal
+-- leaves every byte of the lent report as it was. Callers check nothing first.
+-- It fails a kit that stops, that writes before it refuses, that returns a number no answer has, or that refuses a bad
+-- sheet by another rule or line. A kit that refuses all passes the first half and not demand 2.
+abbrev pub Demand1 : Kit → Type 0
+Demand1 kit =
+    ((sheet buffer : Text) → IsBytes sheet → IsBytes buffer → (a : Answer) × IsAnswer a × Gives kit sheet buffer a)
+    × ((sheet buffer : Text) → IsBytes sheet → IsBytes buffer → (number : Number) → (line : Line)
+    → answer (length buffer) sheet ≡ refused number line
+    → Gives kit sheet buffer (refused number line))
+
+-- Demand 2. An accepted sheet gives exactly the figures of document 01, over whole numbers, and a sheet is accepted
+-- exactly when document 01's rules admit it.
+-- It fails a kit that refuses every sheet (the sheet of Example is admitted), one with one fixed report (two admitted
+-- sheets have two reports), one that returns a length and writes nothing (the buffer must hold the report), and one that
+-- goes by the first priority row only (in Example the first takes nothing and the second 300,000).
+abbrev pub Demand2 : Kit → Type 0
+Demand2 kit =
+    (sheet buffer : Text) → IsBytes sheet → IsBytes buffer → 32_768 ≤ length buffer
+    → (report : Text) → length report ≤ 32_768
+    → Gives kit sheet buffer (accepted report)
+    ↔ ((t : Tables) × Admitted t × (sheet ≡ sheetOf t) × (report ≡ reportOf t))
+
+-- Whether a row names a class
+abbrev pub names : Class → PriorityRow → Bool
+names n o = eqb (o .first) n || eqb (o .second) n
+
+-- The rows that name a class, in their order
+abbrev pub naming : Class → List PriorityRow → List PriorityRow
+naming n [] = []
+naming n (o ∷ os) = elim (names n o) [ true ↦ o ∷ naming n os | false ↦ naming n os ]
+
+-- Tables with another priority list
+abbrev pub withPriorities : Tables → List PriorityRow → Tables
+withPriorities t os =
+    record { date = t .date; classes = t .classes; priorities = os; securities = t .securities; trades = t .trades }
+
+-- Demand 3, of sheets. Reorder an accepted sheet's priority rows so that each class still meets the rows that name it,
+-- the same rows in the same order: the new sheet is accepted, with the same report byte for byte.
+-- A fixed report would survive this alone; with demand 2 it fails a kit that goes by the first row only, for which the
+-- two rows of Example in either order give two reports once both name other classes.
+abbrev pub Reordering : Kit → Type 0
+Reordering kit =
+    (t : Tables) → Admitted t → (os : List PriorityRow)
+    → ((n : Class) → naming n (t .priorities) ≡ naming n os)
+    → (buffer : Text) → IsBytes buffer → 32_768 ≤ length buffer
+    → (report : Text) → Gives kit (sheetOf t) buffer (accepted report)
+    → Gives kit (sheetOf (withPriorities t os)) buffer (accepted report)
+
+-- Demand 3, of one row. Each row takes as much off the longs as off the shorts (before and after, crosswise), no position
+-- grows or falls below zero (no more is taken than is there).
+abbrev pub RowTakes : Type 0
+RowTakes =
+    (o : PriorityRow) → T (isFactor (o .factor)) → (b : Book)
+    → (sum (b .long) + sum (offsetRow o b .short) ≡ sum (b .short) + sum (offsetRow o b .long))
+    × ((n : Class) → position (offsetRow o b .long) n ≤ position (b .long) n)
+    × ((n : Class) → position (offsetRow o b .short) n ≤ position (b .short) n)
+    × ((n m : Class) → taken (o .factor) n m b ≤ position (b .long) n)
+    × ((n m : Class) → taken (o .factor) n m b ≤ position (b .short) m)
+
+-- Demand 3, of all rows. A class that no row names keeps both its positions.
+abbrev pub UnnamedKeeps : Type 0
+UnnamedKeeps =
+    (os : List PriorityRow) (b : Book) (n : Class) → naming n os ≡ []
+    → (position (offsetAll os b .long) n ≡ position (b .long) n)
+    × (position (offsetAll os b .short) n ≡ position (b .short) n)
+
+-- Demand 3, whole
+abbrev pub Demand3 : Kit → Type 0
+Demand3 kit = Reordering kit × RowTakes × UnnamedKeeps

@@ -1,0 +1,15 @@
+pub mod Units
+pub mod Rounding
+pub mod Days
+pub mod Text
+pub mod Rows
+pub mod Valuation
+pub mod Refusals
+pub mod Sheet
+pub mod Offsetting
+pub mod Report
+pub mod Answer
+pub mod Tables
+pub mod Demands
+pub mod Figures
+pub mod Example

@@ -1,0 +1,102 @@
+-- Offsetting and margins (01, "Offsetting" and "Class margin"; 000 III and IV, 001 articles 3.2 and 3.3).
+use Prim.Native.Nat.{ℕ, zero, suc, _+_, _-_, _*_, min, max}
+use mathlib.Core.Bool.{Bool, true, false, cond}
+use mathlib.Core.List.{List, [], _∷_, map}
+use mathlib.Core.Option.{Option·getD}
+use lib.Dec.{eqb}
+use lib.IntN.{ℤ, pos, negsuc, _-ℤ_}
+use lib.ListN.{getD, set}
+use Rattle.paper.specs.Units.{Class, Currency, Factor, Cents, SignedCents, Whole, SignedWhole}
+use Rattle.paper.specs.Rounding.{nearest}
+use Rattle.paper.specs.Text.{same}
+use Rattle.paper.specs.Rows.{ClassRow, PriorityRow, SecurityRow}
+use Rattle.paper.specs.Valuation.{Valued, worthsIn, net, classOf}
+
+-- The positions of all classes in one currency, whole units: the list has each class's at the place of its number
+pub record Book : Type 0 where
+  pub long : List Whole
+  pub short : List Whole
+
+-- The position of a class, whole units
+abbrev pub position : List Whole → Class → Whole
+position ps n = getD ps n 0
+
+-- A security's currency, class and net, in whole units
+pub record Position : Type 0 where
+  pub currency : Currency
+  pub class : Class
+  pub net : SignedWhole
+
+-- The position in a security, from the margined trades
+abbrev pub positionIn : List ClassRow → List Valued → SecurityRow → Position
+positionIn cs vs s =
+    record {
+      currency = s .currency;
+      class = Option·getD (classOf cs (s .kind) (s .duration)) 0;
+      net = net (worthsIn (s .code) vs);
+    }
+
+-- Long: a positive net, whole units
+abbrev pub longOf : SignedWhole → Whole
+longOf (pos n) = n
+longOf (negsuc n) = 0
+
+-- Short: a negative net taken positive, whole units
+abbrev pub shortOf : SignedWhole → Whole
+shortOf (pos n) = 0
+shortOf (negsuc n) = suc n
+
+-- No position, for the classes up to a number
+abbrev pub flat : Class → List Whole
+flat zero = 0 ∷ []
+flat (suc n) = 0 ∷ flat n
+
+-- One side of the positions, summed by class, whole units
+abbrev pub summed : (SignedWhole → Whole) → List Position → List Whole
+summed side [] = flat 40
+summed side (p ∷ ps) =
+    let rest = summed side ps in
+    set rest (p .class) (position rest (p .class) + side (p .net))
+
+-- Long and short of each class (01, "Offsetting"), from the positions of one currency
+abbrev pub opening : List Position → Book
+opening ps = record { long = summed longOf ps; short = summed shortOf ps }
+
+-- A factor's share of an amount: ten-thousandths × whole units / 10,000
+abbrev pub share : Factor → Whole → Whole
+share factor amount = nearest (factor * amount) 10_000
+
+-- What a factor takes of the long of one class and the short of another: its share of the smaller, whole units
+abbrev pub taken : Factor → Class → Class → Book → Whole
+taken factor n m b = share factor (min (position (b .long) n) (position (b .short) m))
+
+-- An amount off the position of a class, whole units
+abbrev pub less : Class → Whole → List Whole → List Whole
+less n amount ps = set ps n (position ps n - amount)
+
+-- The long of one class and the short of another, each less what is taken
+abbrev pub offset : Factor → Class → Class → Book → Book
+offset factor n m b =
+    let amount = taken factor n m b in
+    record { long = less n amount (b .long); short = less m amount (b .short) }
+
+-- A row: one class against itself, or the long of each class against the short of the other
+abbrev pub offsetRow : PriorityRow → Book → Book
+offsetRow o b =
+    elim (eqb (o .first) (o .second)) [
+      | true ↦ offset (o .factor) (o .first) (o .first) b
+      | false ↦ offset (o .factor) (o .second) (o .first) (offset (o .factor) (o .first) (o .second) b)
+    ]
+
+-- All rows in their order, each from what the one before left
+abbrev pub offsetAll : List PriorityRow → Book → Book
+offsetAll [] b = b
+offsetAll (o ∷ os) b = offsetAll os (offsetRow o b)
+
+-- Class margin (01): deposit factor × larger remaining side / 10,000, whole units
+abbrev pub margin : Factor → Whole → Whole → Whole
+margin deposit long short = share deposit (max long short)
+
+-- Total (01): 100 × initial - mark-to-market, in cents, or 0 where that is below zero
+abbrev pub total : Whole → SignedCents → Cents
+total initial mark = longOf (pos (100 * initial) -ℤ mark)

@@ -1,0 +1,177 @@
+-- Refusals (01, "Report and refusal numbers"): for each row kind its rules in rising number; the first that fails is given.
+-- A rule is a number and its test. `above` are the rows of the section above the row, the nearest first.
+use Prim.Native.Nat.{ℕ, _-_, suc}
+use mathlib.Core.Bool.{Bool, true, false, cond, not, _&&_, _||_}
+use mathlib.Core.List.{List, [], _∷_}
+use mathlib.Core.Option.{Option, none, some}
+use lib.Dec.{eqb, leb, ltb}
+use lib.IntN.{ℤ, natAbs}
+use lib.ListN.{length}
+use Rattle.paper.specs.Units.{Number, Line, Date, Day, Days, Class, Code, Currency, Duration, Factor, Rate}
+use Rattle.paper.specs.Days.{between, isDay, day}
+use Rattle.paper.specs.Text.{same, before, isCode, isCurrency}
+use Rattle.paper.specs.Rows.{Kind, government, corporate, inflation, floating, Trade, repo, cash, ClassRow, PriorityRow, SecurityRow, TradeRow, sameKind}
+use Rattle.paper.specs.Valuation.{margined, accrualDay, securityOf, classOf}
+
+-- What reading gives: a refusal with its line, or what was read
+pub data Outcome (A : Type 0) : Type 0 where
+  refused : Number → Line → Outcome A
+  accepted : A → Outcome A
+
+infixl 20 _>>=_
+-- Nothing goes on from a refusal
+abbrev pub _>>=_ : {A B : Type 0} → Outcome A → (A → Outcome B) → Outcome B
+refused number line >>= next = refused number line
+accepted a >>= next = next a
+
+-- A refusal number, and whether its rule holds
+abbrev pub Rule : Type 0
+Rule = Number × Bool
+
+-- Rules in rising number, on what stands at a line: the first that fails is its refusal
+abbrev pub judged : {A : Type 0} → Line → A → List Rule → Outcome A
+judged at a [] = accepted a
+judged at a (rule ∷ rules) = elim (rule .1) [ true ↦ judged at a rules | false ↦ refused (rule .0) at ]
+
+-- Whether something is given
+abbrev pub given : {A : Type 0} → Option A → Bool
+given none = false
+given (some a) = true
+
+-- A class, wherever it stands: 1..40
+abbrev pub isClass : Class → Bool
+isClass = between 1 40
+
+-- A factor: 0..10,000 ten-thousandths
+abbrev pub isFactor : Factor → Bool
+isFactor f = leb f 10_000
+
+-- Border and duration are blank exactly for kinds I and F: else 1..1,000,000 ten-thousandths of a year
+abbrev pub isDuration : Kind → Option Duration → Bool
+isDuration kind none = sameKind kind inflation || sameKind kind floating
+isDuration kind (some d) = (sameKind kind government || sameKind kind corporate) && between 1 1_000_000 d
+
+-- Two real dates, the second so many days after the first: at least one, and so many at most
+abbrev pub follows : Days → Date → Date → Bool
+follows most first second = isDay first && isDay second && between 1 most (day second - day first)
+
+-- D row: 7 the calculation date is a day, no later than 23991220
+abbrev pub dateRules : Date → List Rule
+dateRules d = (7, isDay d && leb d 23_991_220) ∷ []
+
+-- Whether a C row's class is above the nearest one's
+abbrev pub classRises : List ClassRow → ClassRow → Bool
+classRises [] c = true
+classRises (a ∷ above) c = ltb (a .class) (c .class)
+
+-- Whether a border is below another; no blank is
+abbrev pub lower : Option Duration → Option Duration → Bool
+lower none b = false
+lower (some a) none = false
+lower (some a) (some b) = ltb a b
+
+-- Whether every class above of its kind has a lower border: so borders rise, and I and F have one class at most
+abbrev pub borderRises : List ClassRow → ClassRow → Bool
+borderRises [] c = true
+borderRises (a ∷ above) c = (not (sameKind (a .kind) (c .kind)) || lower (a .border) (c .border)) && borderRises above c
+
+-- C rows: 6 fields; 8 at most 40; 9 classes and the borders of one kind rise
+abbrev pub classRules : List ClassRow → ClassRow → List Rule
+classRules above c =
+    (6, isClass (c .class) && isDuration (c .kind) (c .border) && isFactor (c .deposit))
+    ∷ (8, ltb (length above) 40)
+    ∷ (9, classRises above c && borderRises above c)
+    ∷ []
+
+-- Whether a class has a C row
+abbrev pub hasClass : List ClassRow → Class → Bool
+hasClass [] n = false
+hasClass (c ∷ cs) n = eqb (c .class) n || hasClass cs n
+
+-- O rows: 6 fields; 8 at most 200; 10 both classes are on the sheet
+abbrev pub priorityRules : List ClassRow → List PriorityRow → PriorityRow → List Rule
+priorityRules cs above o =
+    (6, isClass (o .first) && isClass (o .second) && isFactor (o .factor))
+    ∷ (8, ltb (length above) 200)
+    ∷ (10, hasClass cs (o .first) && hasClass cs (o .second))
+    ∷ []
+
+-- A currency put into its place among rising ones, where it is new
+abbrev pub placed : Currency → List Currency → List Currency
+placed c [] = c ∷ []
+placed c (d ∷ ds) = elim (same c d) [
+  | true ↦ d ∷ ds
+  | false ↦ elim (before c d) [ true ↦ c ∷ d ∷ ds | false ↦ d ∷ placed c ds ]
+]
+
+-- The currencies of S rows, rising by bytes
+abbrev pub currencies : List SecurityRow → List Currency
+currencies [] = []
+currencies (s ∷ ss) = placed (s .currency) (currencies ss)
+
+-- Whether an S row's code comes after the nearest one's
+abbrev pub codeRises : List SecurityRow → SecurityRow → Bool
+codeRises [] s = true
+codeRises (a ∷ above) s = before (a .code) (s .code)
+
+-- The fields of an S row that are no dates
+abbrev pub securityFields : SecurityRow → Bool
+securityFields s =
+    isCode (s .code)
+    && isCurrency (s .currency)
+    && isDuration (s .kind) (s .duration)
+    && between 1 20_000_000 (s .price)
+    && leb (s .coupon) 2_000_000
+    && (eqb (s .payments) 1 || eqb (s .payments) 2 || eqb (s .payments) 4)
+
+-- S rows: 6 fields; 7 next coupon 1 to 400 days after the previous; 8 at most 200, 8 currencies; 9 codes rise; 11 a class
+abbrev pub securityRules : List ClassRow → List SecurityRow → SecurityRow → List Rule
+securityRules cs above s =
+    (6, securityFields s)
+    ∷ (7, follows 400 (s .previous) (s .next))
+    ∷ (8, ltb (length above) 200 && leb (length (currencies (s ∷ above))) 8)
+    ∷ (9, codeRises above s)
+    ∷ (11, given (classOf cs (s .kind) (s .duration)))
+    ∷ []
+
+-- A rate: -200,000..200,000 ten-thousandths of a percent
+abbrev pub isRate : Rate → Bool
+isRate r = leb (natAbs r) 200_000
+
+-- Last date and rate are blank exactly for cash; a repo's last date is left to 7
+abbrev pub isTerm : Trade → Option Date → Option Rate → Bool
+isTerm cash last rate = not (given last) && not (given rate)
+isTerm repo last none = false
+isTerm repo last (some rate) = isRate rate
+
+-- The fields of a T row that are no dates
+abbrev pub tradeFields : TradeRow → Bool
+tradeFields t =
+    isCode (t .code)
+    && between 1 100_000_000 (t .nominal)
+    && between 1 30_000_000_000 (t .amount)
+    && isTerm (t .trade) (t .last) (t .rate)
+
+-- The dates of a T row: a repo's last 1 to 730 days after its first
+abbrev pub tradeDates : Trade → Date → Option Date → Bool
+tradeDates cash first last = isDay first
+tradeDates repo first none = false
+tradeDates repo first (some last) = follows 730 first last
+
+-- Whether the accrual day of a margined trade is at or after the previous and before the next coupon date
+abbrev pub inPeriod : Day → TradeRow → Option SecurityRow → Bool
+inPeriod today t none = false
+inPeriod today t (some s) =
+    let on = accrualDay today t in
+    not (margined today t) || (leb (day (s .previous)) on && ltb on (day (s .next)))
+
+-- T rows: 6 fields; 7 dates; 8 at most 500; 10 the security is on the sheet; 12 accrual in the coupon period
+abbrev pub tradeRules : Day → List SecurityRow → List TradeRow → TradeRow → List Rule
+tradeRules today ss above t =
+    let s = securityOf ss (t .code) in
+    (6, tradeFields t)
+    ∷ (7, tradeDates (t .trade) (t .first) (t .last))
+    ∷ (8, ltb (length above) 500)
+    ∷ (10, given s)
+    ∷ (12, inPeriod today t s)
+    ∷ []

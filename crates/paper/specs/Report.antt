@@ -1,0 +1,56 @@
+-- The report (01, "Report and refusal numbers"): M lines, then for each currency its K lines and its Z line.
+use Prim.Native.Nat.{ℕ, _+_}
+use mathlib.Core.Bool.{Bool, true, false, cond}
+use mathlib.Core.List.{List, [], _∷_, _++_, map, filter}
+use lib.IntN.{ℤ, pos, _+ℤ_}
+use Rattle.paper.specs.Units.{Text, Currency, SignedCents, Whole}
+use Rattle.paper.specs.Days.{sum}
+use Rattle.paper.specs.Text.{ascii, line, joinedUp, digits, signedDigits, same}
+use Rattle.paper.specs.Rows.{ClassRow, SecurityRow, Tables}
+use Rattle.paper.specs.Valuation.{Valued, valuedIn}
+use Rattle.paper.specs.Refusals.{currencies}
+use Rattle.paper.specs.Offsetting.{Position, positionIn, Book, position, opening, offsetAll, margin, total}
+
+-- M;line;currency;mark-to-market, for a margined trade
+abbrev pub tradeLine : Valued → Text
+tradeLine v = line (ascii "M" ∷ digits (v .line) ∷ v .security .currency ∷ signedDigits (v .mark) ∷ [])
+
+-- The margin of a class, whole units, from its remaining positions
+abbrev pub marginOf : Book → ClassRow → Whole
+marginOf b c = margin (c .deposit) (position (b .long) (c .class)) (position (b .short) (c .class))
+
+-- K;currency;class;long;short;margin, for a class in a currency: its remaining positions
+abbrev pub classLine : Currency → Book → ClassRow → Text
+classLine currency b c =
+    line
+    (ascii "K" ∷ currency ∷ digits (c .class) ∷ digits (position (b .long) (c .class)) ∷ digits (position (b .short) (c .class))
+    ∷ digits (marginOf b c) ∷ [])
+
+-- Z;currency;mark-to-market;initial;total, for a currency
+abbrev pub currencyLine : Currency → SignedCents → Whole → Text
+currencyLine currency mark initial =
+    line (ascii "Z" ∷ currency ∷ signedDigits mark ∷ digits initial ∷ digits (total initial mark) ∷ [])
+
+-- The mark-to-market sum of a currency's margined trades, in cents
+abbrev pub markIn : Currency → List Valued → SignedCents
+markIn c [] = pos 0
+markIn c (v ∷ vs) = elim (same (v .security .currency) c) [ true ↦ v .mark +ℤ markIn c vs | false ↦ markIn c vs ]
+
+-- The positions of a currency
+abbrev pub positionsIn : Currency → List Position → List Position
+positionsIn c [] = []
+positionsIn c (p ∷ ps) = elim (same (p .currency) c) [ true ↦ p ∷ positionsIn c ps | false ↦ positionsIn c ps ]
+
+-- A currency's lines: K for every class by rising number, and Z; the initial margin is the sum of the class margins
+abbrev pub currencyLines : Tables → List Valued → List Position → Currency → Text
+currencyLines t vs ps c =
+    let remaining = offsetAll (t .priorities) (opening (positionsIn c ps)) in
+    joinedUp (map (classLine c remaining) (t .classes))
+    ++ currencyLine c (markIn c vs) (sum (map (marginOf remaining) (t .classes)))
+
+-- The report of tables
+abbrev pub reportOf : Tables → Text
+reportOf t =
+    let vs = valuedIn t in
+    let ps = map (positionIn (t .classes) vs) (t .securities) in
+    joinedUp (map tradeLine vs) ++ joinedUp (map (currencyLines t vs ps) (currencies (t .securities)))

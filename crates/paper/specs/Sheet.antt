@@ -1,0 +1,73 @@
+-- A sheet, read (01, "The sheet", and the order of refusals): header, D row, then the sections C, O, S and T.
+-- The earliest line that fails is refused, by its smallest number.
+use Prim.Native.Nat.{ℕ, suc}
+use mathlib.Core.Bool.{Bool, true, false, _&&_}
+use mathlib.Core.List.{List, [], _∷_, reverse, tail}
+use mathlib.Core.Option.{Option, none, some}
+use lib.Dec.{eqb}
+use lib.ListN.{length, getD, take, drop}
+use Rattle.paper.specs.Units.{Text, Fields, Line, Date}
+use Rattle.paper.specs.Days.{day}
+use Rattle.paper.specs.Text.{ascii, lines, same}
+use Rattle.paper.specs.Rows.{ClassRow, PriorityRow, SecurityRow, TradeRow, Tables, field, readDate, readClass, readPriority, readSecurity, readTrade}
+use Rattle.paper.specs.Refusals.{Outcome, refused, accepted, _>>=_, Rule, judged, dateRules, classRules, priorityRules, securityRules, tradeRules}
+
+-- The lines that are left, with the number of the first
+abbrev pub Left : Type 0
+Left = Line × List Fields
+
+-- Header: 3 the sheet begins `BRM;`; 4 line 1 goes on with `1` and LF
+abbrev pub header : Text → Outcome Left
+header sheet =
+    judged 1 (2, lines (drop 6 sheet))
+    ((3, same (ascii "BRM;") (take 4 sheet)) ∷ (4, same (ascii "1\n") (take 2 (drop 4 sheet))) ∷ [])
+
+-- Whether a line has this letter
+abbrev pub begins : Text → Fields → Bool
+begins letter fs = same letter (field 0 fs)
+
+-- A row: 5 it has its letter and so many fields with it; 6 each field has its form; then the rules
+abbrev pub row : {R : Type 0} → Text → ℕ → (Fields → Option R) → (R → List Rule) → Line → Fields → Outcome R
+row letter many read rules at fs =
+    elim (begins letter fs && eqb (length fs) many) [
+      | false ↦ refused 5 at
+      | true ↦ elim (read fs) [ none ↦ refused 6 at | some r ↦ judged at r (rules r) ]
+    ]
+
+-- Rows from a line on, each judged by those above it, down to the first line with another letter
+abbrev pub rowsFrom : {R : Type 0} → Text → (List R → Line → Fields → Outcome R) → List R → Line → List Fields → Outcome (List R × Left)
+rowsFrom letter judge above at [] = accepted (reverse above, (at, []))
+rowsFrom letter judge above at (fs ∷ rest) =
+    elim (begins letter fs) [
+      | false ↦ accepted (reverse above, (at, fs ∷ rest))
+      | true ↦ elim (judge above at fs) [
+        | refused number line ↦ refused number line
+        | accepted r ↦ rowsFrom letter judge (r ∷ above) (suc at) rest
+      ]
+    ]
+
+-- A section: the rows of a letter, each of so many fields, with how they are read and their rules
+abbrev pub section : {R : Type 0} → Text → ℕ → (Fields → Option R) → (List R → R → List Rule) → Left → Outcome (List R × Left)
+section letter many read rules left =
+    rowsFrom letter (λ above. row letter many read (rules above)) [] (left .0) (left .1)
+
+-- The D row is the first line that is left; where none is left it is missing, and refused as a line with no fields
+abbrev pub dateRow : Left → Outcome (Date × Left)
+dateRow left =
+    row (ascii "D") 2 readDate dateRules (left .0) (getD (left .1) 0 [])
+    >>= λ date. accepted (date, (suc (left .0), tail (left .1)))
+
+-- 5 no line is left: one would have an unknown letter, be out of its section or lack its LF
+abbrev pub ended : {A : Type 0} → A → Left → Outcome A
+ended a left = judged (left .0) a ((5, eqb (length (left .1)) 0) ∷ [])
+
+-- The tables of a sheet, or its refusal
+abbrev pub readSheet : Text → Outcome Tables
+readSheet sheet = do
+  rows ← header sheet
+  (date, rows) ← dateRow rows
+  (cs, rows) ← section (ascii "C") 5 readClass classRules rows
+  (os, rows) ← section (ascii "O") 4 readPriority (priorityRules cs) rows
+  (ss, rows) ← section (ascii "S") 10 readSecurity (securityRules cs) rows
+  (ts, rows) ← section (ascii "T") 9 readTrade (tradeRules (day date) ss) rows
+  ended (record { date = date; classes = cs; priorities = os; securities = ss; trades = ts }) rows

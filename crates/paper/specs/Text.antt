@@ -1,0 +1,163 @@
+-- Text (01, "The sheet"): lines, fields, and the forms of a field. Letters are held as their bytes.
+use Prim.Native.Nat.{ℕ, zero, suc, _+_, _-_, _*_, _/_, _%_, compare, Ordering, Ordering·lt, Ordering·eq, Ordering·gt}
+use Prim.Native.String as S
+use Prim.Native.String.{String}
+use Prim.Native.Char.{code}
+use mathlib.Core.Bool.{Bool, true, false, cond, _&&_, _||_}
+use mathlib.Core.List.{List, [], _∷_, _++_}
+use mathlib.Core.Option.{Option, none, some}
+use lib.Dec.{eqb, ltb}
+use lib.IntN.{ℤ, pos, negsuc}
+use lib.ListN.{length, take, drop}
+use Rattle.paper.specs.Units.{Byte, Text, Fields, Date}
+use Rattle.paper.specs.Days.{between}
+
+-- Letters written out, as bytes
+abbrev pub ascii : String → Text
+ascii S.[] = []
+ascii (S._∷_ c s) = code c ∷ ascii s
+
+-- LF, which ends a line
+abbrev pub LF : Byte
+LF = 10
+
+-- The mark that parts fields
+abbrev pub semicolon : Byte
+semicolon = 59
+
+-- A byte before the pieces of the text behind it: a mark opens a new piece, any other byte joins the first
+abbrev pub pieced : Bool → Byte → List Text → List Text
+pieced true b ps = [] ∷ ps
+pieced false b [] = (b ∷ []) ∷ []
+pieced false b (p ∷ ps) = (b ∷ p) ∷ ps
+
+-- The pieces of a text between its marks: one more than it has marks
+abbrev pub pieces : Byte → Text → List Text
+pieces mark [] = [] ∷ []
+pieces mark (b ∷ bs) = pieced (eqb b mark) b (pieces mark bs)
+
+-- What stands behind the last LF: nothing, or a line without LF, which counts as a line with no fields
+abbrev pub unended : Text → List Fields
+unended [] = []
+unended (b ∷ bs) = [] ∷ []
+
+-- Each piece that an LF ends, as its fields
+abbrev pub linesOf : List Text → List Fields
+linesOf [] = []
+linesOf (p ∷ []) = unended p
+linesOf (p ∷ q ∷ ps) = pieces semicolon p ∷ linesOf (q ∷ ps)
+
+-- The lines of a text, each as its fields
+abbrev pub lines : Text → List Fields
+lines t = linesOf (pieces LF t)
+
+-- A line as it is written: fields parted by `;`, and LF
+abbrev pub line : Fields → Text
+line [] = LF ∷ []
+line (f ∷ []) = f ++ (LF ∷ [])
+line (f ∷ g ∷ fs) = f ++ (semicolon ∷ line (g ∷ fs))
+
+-- Texts one behind the other
+abbrev pub joinedUp : List Text → Text
+joinedUp [] = []
+joinedUp (t ∷ ts) = t ++ joinedUp ts
+
+-- Whether two texts are the same bytes
+abbrev pub same : Text → Text → Bool
+same [] [] = true
+same [] (c ∷ t) = false
+same (b ∷ s) [] = false
+same (b ∷ s) (c ∷ t) = elim (eqb b c) [ true ↦ same s t | false ↦ false ]
+
+-- Whether a text comes before another, by bytes
+abbrev pub before : Text → Text → Bool
+before [] [] = false
+before [] (c ∷ t) = true
+before (b ∷ s) [] = false
+before (b ∷ s) (c ∷ t) = elim (compare b c) [ Ordering·lt ↦ true | Ordering·eq ↦ before s t | Ordering·gt ↦ false ]
+
+-- Whether every byte passes a test
+abbrev pub every : (Byte → Bool) → Text → Bool
+every test [] = true
+every test (b ∷ bs) = elim (test b) [ true ↦ every test bs | false ↦ false ]
+
+-- 0 to 9
+abbrev pub isDigit : Byte → Bool
+isDigit = between 48 57
+
+-- A to Z
+abbrev pub isLetter : Byte → Bool
+isLetter = between 65 90
+
+-- A value where a test passes
+abbrev pub when : {A : Type 0} → Bool → A → Option A
+when true a = some a
+when false a = none
+
+-- What decimal digits mean, behind a number read so far
+abbrev pub decimal : ℕ → Text → ℕ
+decimal n [] = n
+decimal n (b ∷ bs) = decimal (10 * n + (b - 48)) bs
+
+-- A number: decimal digits with no leading zero; `0` itself is allowed
+abbrev pub number : Text → Option ℕ
+number [] = none
+number (b ∷ []) = when (isDigit b) (b - 48)
+number (b ∷ c ∷ bs) = when (between 49 57 b && every isDigit (c ∷ bs)) (decimal 0 (b ∷ c ∷ bs))
+
+-- A number not below zero, as a signed one
+abbrev pub unsigned : Option ℕ → Option ℤ
+unsigned none = none
+unsigned (some n) = some (pos n)
+
+-- A number with `-` before it: `-0` is none
+abbrev pub negated : Option ℕ → Option ℤ
+negated none = none
+negated (some zero) = none
+negated (some (suc n)) = some (negsuc n)
+
+-- A signed number, as the rate is one
+abbrev pub signed : Text → Option ℤ
+signed [] = none
+signed (b ∷ bs) = cond (eqb b 45) (negated (number bs)) (unsigned (number (b ∷ bs)))
+
+-- A date's eight digits as one number; 0, which is no day, for anything else
+abbrev pub dateIn : Text → Date
+dateIn t = cond (eqb (length t) 8 && every isDigit t) (decimal 0 t) 0
+
+-- A code: two letters, nine letters or digits, one digit
+abbrev pub isCode : Text → Bool
+isCode t =
+    eqb (length t) 12
+    && every isLetter (take 2 t)
+    && every (λ b. isLetter b || isDigit b) (take 9 (drop 2 t))
+    && every isDigit (drop 11 t)
+
+-- A currency: three letters
+abbrev pub isCurrency : Text → Bool
+isCurrency t = eqb (length t) 3 && every isLetter t
+
+-- A field that may be blank
+abbrev pub orBlank : {A : Type 0} → (Text → Option A) → Text → Option (Option A)
+orBlank read [] = some none
+orBlank read (b ∷ bs) = elim (read (b ∷ bs)) [ none ↦ none | some a ↦ some (some a) ]
+
+-- A field that may be blank, as it is written
+abbrev pub blankOr : {A : Type 0} → (A → Text) → Option A → Text
+blankOr write none = []
+blankOr write (some a) = write a
+
+-- The digits of a number before a text; so many digits at most
+abbrev pub digitsBefore : ℕ → ℕ → Text → Text
+digitsBefore zero n t = t
+digitsBefore (suc most) n t =
+    elim (ltb n 10) [ true ↦ (48 + n) ∷ t | false ↦ digitsBefore most (n / 10) ((48 + n % 10) ∷ t) ]
+
+-- A number as it is written
+abbrev pub digits : ℕ → Text
+digits n = digitsBefore (suc n) n []
+
+-- A signed number as it is written: with `-` before it where it is below zero
+abbrev pub signedDigits : ℤ → Text
+signedDigits (pos n) = digits n
+signedDigits (negsuc n) = 45 ∷ digits (suc n)

@@ -1,0 +1,1 @@
+// Definitions only: the paper is specs/, and no code stands here.
