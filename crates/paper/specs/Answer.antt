@@ -1,7 +1,6 @@
 -- The kit's answer to a sheet and a report buffer (01, "Report and refusal numbers").
 use Prim.Native.Nat.{ℕ, _+_, _*_}
-use mathlib.Core.Bool.{Bool, true, false}
-use mathlib.Core.List.{List, [], _∷_, _++_}
+use mathlib.Core.List.{[], _∷_, _++_}
 use lib.Dec.{leb}
 use lib.ListN.{length, drop}
 use Rattle.paper.specs.Units.{Text, Room}

@@ -2,19 +2,11 @@
 use Prim.Native.Nat.{ℕ, zero, suc, _+_, _-_, _/_, _%_}
 use mathlib.Core.Bool.{Bool, true, false, cond, not, _&&_, _||_}
 use mathlib.Core.List.{List, [], _∷_}
-use mathlib.Core.Option.{Option, none, some, Option·getD}
+use mathlib.Core.Option.{Option, Option·getD}
 use lib.Dec.{eqb, leb, ltb}
 use lib.ListN.{getD, take}
 use Rattle.paper.specs.Units.{Date, Year, Day, Days}
-
--- A number from a lowest to a highest, both counted (any unit, one for the three)
-abbrev pub between : ℕ → ℕ → ℕ → Bool
-between lowest highest n = leb lowest n && leb n highest
-
--- A sum of numbers of one unit
-abbrev pub sum : List ℕ → ℕ
-sum [] = 0
-sum (n ∷ ns) = n + sum ns
+use Rattle.paper.specs.Lists.{between, sum, given, when}
 
 -- Leap years: every fourth, but of the centuries every fourth only
 abbrev pub leap : Year → Bool
@@ -51,11 +43,11 @@ dayOf date =
     let y = date / 10_000 in
     let month = date / 100 % 100 in
     let day = date % 100 in
-    cond (leb 1 month && leb 1 day && isReal y (month - 1) (day - 1)) (some (dayIn y (month - 1) (day - 1))) none
+    when (leb 1 month && leb 1 day && isReal y (month - 1) (day - 1)) (dayIn y (month - 1) (day - 1))
 
 -- Whether a date is a real day of 2000 to 2399
 abbrev pub isDay : Date → Bool
-isDay date = elim (dayOf date) [ none ↦ false | some d ↦ true ]
+isDay date = given (dayOf date)
 
 -- The day of a real date
 abbrev pub day : Date → Day

@@ -1,14 +1,13 @@
 -- The three demands, as types over the definitions. They are stated here and proved of the kit later.
 use Prim.Native.Nat.{ℕ, _+_, _≤_, _<_}
-use mathlib.Core.Bool.{Bool, true, false, _||_}
-use mathlib.Core.List.{List, [], _∷_}
+use mathlib.Core.Bool.{Bool, _||_}
+use mathlib.Core.List.{List, []}
 use mathlib.Core.Logic.{_↔_}
 use mathlib.Core.Path.{_≡_}
 use lib.Dec.{T, eqb, ltb}
 use lib.ListN.{length}
-use Rattle.paper.specs.Units.{Byte, Text, Number, Line, Class, Factor, Whole}
-use Rattle.paper.specs.Days.{sum}
-use Rattle.paper.specs.Text.{every}
+use Rattle.paper.specs.Units.{Text, Number, Line, Class}
+use Rattle.paper.specs.Lists.{sum, every, only}
 use Rattle.paper.specs.Rows.{PriorityRow, Tables}
 use Rattle.paper.specs.Refusals.{isFactor, refused, accepted}
 use Rattle.paper.specs.Offsetting.{Book, position, taken, offsetRow, offsetAll}
@@ -36,8 +35,10 @@ IsAnswer (accepted report) = length report ≤ 32_768
 
 -- Demand 1. The kit answers every sheet of bytes and ends. A bad sheet is refused by number and line, and a refusal
 -- leaves every byte of the lent report as it was. Callers check nothing first.
--- It fails a kit that stops, that writes before it refuses, that returns a number no answer has, or that refuses a bad
--- sheet by another rule or line. A kit that refuses all passes the first half and not demand 2.
+-- First half: some answer, whatever the sheet and the buffer. Second half: the refusal that document 01 gives.
+-- Useless kits: one fixed report fails it on every bad sheet, and so does one refusal for all sheets. A kit that refuses
+-- the good sheets too, by any number, or gives a length and writes nothing, or goes by the first priority row only, passes
+-- here and fails demand 2.
 abbrev pub Demand1 : Kit → Type 0
 Demand1 kit =
     ((sheet buffer : Text) → IsBytes sheet → IsBytes buffer → (a : Answer) × IsAnswer a × Gives kit sheet buffer a)
@@ -47,9 +48,9 @@ Demand1 kit =
 
 -- Demand 2. An accepted sheet gives exactly the figures of document 01, over whole numbers, and a sheet is accepted
 -- exactly when document 01's rules admit it.
--- It fails a kit that refuses every sheet (the sheet of Example is admitted), one with one fixed report (two admitted
--- sheets have two reports), one that returns a length and writes nothing (the buffer must hold the report), and one that
--- goes by the first priority row only (in Example the first takes nothing and the second 300,000).
+-- Useless kits: one that refuses all fails it at the sheet of Example, which is the writing of admitted tables; one fixed
+-- report at any sheet with another; a length and nothing written at any buffer that does not hold the report already; the
+-- first priority row only at Example, where the first row takes nothing and the second takes 300,000.
 abbrev pub Demand2 : Kit → Type 0
 Demand2 kit =
     (sheet buffer : Text) → IsBytes sheet → IsBytes buffer → 32_768 ≤ length buffer
@@ -63,8 +64,7 @@ names n o = eqb (o .first) n || eqb (o .second) n
 
 -- The rows that name a class, in their order
 abbrev pub naming : Class → List PriorityRow → List PriorityRow
-naming n [] = []
-naming n (o ∷ os) = elim (names n o) [ true ↦ o ∷ naming n os | false ↦ naming n os ]
+naming n os = only (names n) os
 
 -- Tables with another priority list
 abbrev pub withPriorities : Tables → List PriorityRow → Tables
@@ -73,8 +73,8 @@ withPriorities t os =
 
 -- Demand 3, of sheets. Reorder an accepted sheet's priority rows so that each class still meets the rows that name it,
 -- the same rows in the same order: the new sheet is accepted, with the same report byte for byte.
--- A fixed report would survive this alone; with demand 2 it fails a kit that goes by the first row only, for which the
--- two rows of Example in either order give two reports once both name other classes.
+-- Useless kits: the first priority row only fails it, where two rows that name different classes are swapped. The other
+-- three pass and fail demand 2; so this is stated over the same definitions and not alone.
 abbrev pub Reordering : Kit → Type 0
 Reordering kit =
     (t : Tables) → Admitted t → (os : List PriorityRow)
@@ -83,8 +83,9 @@ Reordering kit =
     → (report : Text) → Gives kit (sheetOf t) buffer (accepted report)
     → Gives kit (sheetOf (withPriorities t os)) buffer (accepted report)
 
--- Demand 3, of one row. Each row takes as much off the longs as off the shorts (before and after, crosswise), no position
--- grows or falls below zero (no more is taken than is there).
+-- Demand 3, of one row and any positions. Each row takes as much off the longs as off the shorts (the sums before and
+-- after, crosswise), no position grows or falls below zero (no more is taken than is there).
+-- It speaks of the definitions, to which demand 2 ties the kit. It shuts out a row that takes off one side only.
 abbrev pub RowTakes : Type 0
 RowTakes =
     (o : PriorityRow) → T (isFactor (o .factor)) → (b : Book)
@@ -95,6 +96,7 @@ RowTakes =
     × ((n m : Class) → taken (o .factor) n m b ≤ position (b .short) m)
 
 -- Demand 3, of all rows. A class that no row names keeps both its positions.
+-- It fails a definition that offsets by the place of a class and not by its number.
 abbrev pub UnnamedKeeps : Type 0
 UnnamedKeeps =
     (os : List PriorityRow) (b : Book) (n : Class) → naming n os ≡ []

@@ -1,7 +1,8 @@
 -- The sheet of document 01 in full, and that its answer is the report printed there.
 use mathlib.Core.Path.{_≡_, refl}
 use Rattle.paper.specs.Units.{Text}
-use Rattle.paper.specs.Text.{ascii, joinedUp}
+use Rattle.paper.specs.Text.{ascii}
+use Rattle.paper.specs.Lists.{joinedUp}
 use mathlib.Core.List.{[], _∷_}
 use Rattle.paper.specs.Answer.{answer, accepted}
 

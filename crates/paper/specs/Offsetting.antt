@@ -1,14 +1,13 @@
 -- Offsetting and margins (01, "Offsetting" and "Class margin"; 000 III and IV, 001 articles 3.2 and 3.3).
 use Prim.Native.Nat.{ℕ, zero, suc, _+_, _-_, _*_, min, max}
-use mathlib.Core.Bool.{Bool, true, false, cond}
-use mathlib.Core.List.{List, [], _∷_, map}
+use mathlib.Core.Bool.{true, false}
+use mathlib.Core.List.{List, [], _∷_}
 use mathlib.Core.Option.{Option·getD}
 use lib.Dec.{eqb}
 use lib.IntN.{ℤ, pos, negsuc, _-ℤ_}
 use lib.ListN.{getD, set}
 use Rattle.paper.specs.Units.{Class, Currency, Factor, Cents, SignedCents, Whole, SignedWhole}
 use Rattle.paper.specs.Rounding.{nearest}
-use Rattle.paper.specs.Text.{same}
 use Rattle.paper.specs.Rows.{ClassRow, PriorityRow, SecurityRow}
 use Rattle.paper.specs.Valuation.{Valued, worthsIn, net, classOf}
 
@@ -36,15 +35,15 @@ positionIn cs vs s =
       net = net (worthsIn (s .code) vs);
     }
 
--- Long: a positive net, whole units
-abbrev pub longOf : SignedWhole → Whole
-longOf (pos n) = n
-longOf (negsuc n) = 0
+-- A signed amount where it is above zero, and else 0: the long side of a net
+abbrev pub aboveZero : ℤ → ℕ
+aboveZero (pos n) = n
+aboveZero (negsuc n) = 0
 
--- Short: a negative net taken positive, whole units
-abbrev pub shortOf : SignedWhole → Whole
-shortOf (pos n) = 0
-shortOf (negsuc n) = suc n
+-- A signed amount taken positive where it is below zero, and else 0: the short side of a net
+abbrev pub belowZero : ℤ → ℕ
+belowZero (pos n) = 0
+belowZero (negsuc n) = suc n
 
 -- No position, for the classes up to a number
 abbrev pub flat : Class → List Whole
@@ -60,7 +59,7 @@ summed side (p ∷ ps) =
 
 -- Long and short of each class (01, "Offsetting"), from the positions of one currency
 abbrev pub opening : List Position → Book
-opening ps = record { long = summed longOf ps; short = summed shortOf ps }
+opening ps = record { long = summed aboveZero ps; short = summed belowZero ps }
 
 -- A factor's share of an amount: ten-thousandths × whole units / 10,000
 abbrev pub share : Factor → Whole → Whole
@@ -99,4 +98,4 @@ margin deposit long short = share deposit (max long short)
 
 -- Total (01): 100 × initial - mark-to-market, in cents, or 0 where that is below zero
 abbrev pub total : Whole → SignedCents → Cents
-total initial mark = longOf (pos (100 * initial) -ℤ mark)
+total initial mark = aboveZero (pos (100 * initial) -ℤ mark)

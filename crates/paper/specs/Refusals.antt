@@ -1,17 +1,18 @@
 -- Refusals (01, "Report and refusal numbers"): for each row kind its rules in rising number; the first that fails is given.
 -- A rule is a number and its test. `above` are the rows of the section above the row, the nearest first.
-use Prim.Native.Nat.{ℕ, _-_, suc}
-use mathlib.Core.Bool.{Bool, true, false, cond, not, _&&_, _||_}
+use Prim.Native.Nat.{_-_}
+use mathlib.Core.Bool.{Bool, true, false, not, _&&_, _||_}
 use mathlib.Core.List.{List, [], _∷_}
 use mathlib.Core.Option.{Option, none, some}
 use lib.Dec.{eqb, leb, ltb}
-use lib.IntN.{ℤ, natAbs}
-use lib.ListN.{length}
-use Rattle.paper.specs.Units.{Number, Line, Date, Day, Days, Class, Code, Currency, Duration, Factor, Rate}
-use Rattle.paper.specs.Days.{between, isDay, day}
+use lib.IntN.{natAbs}
+use lib.ListN.{length, take}
+use Rattle.paper.specs.Units.{Number, Line, Date, Day, Days, Class, Currency, Duration, Factor, Rate}
+use Rattle.paper.specs.Days.{isDay, day}
+use Rattle.paper.specs.Lists.{between, every, firstThat, given}
 use Rattle.paper.specs.Text.{same, before, isCode, isCurrency}
 use Rattle.paper.specs.Rows.{Kind, government, corporate, inflation, floating, Trade, repo, cash, ClassRow, PriorityRow, SecurityRow, TradeRow, sameKind}
-use Rattle.paper.specs.Valuation.{margined, accrualDay, securityOf, classOf}
+use Rattle.paper.specs.Valuation.{margined, accrualDay, securityOf, lower, classOf}
 
 -- What reading gives: a refusal with its line, or what was read
 pub data Outcome (A : Type 0) : Type 0 where
@@ -32,11 +33,6 @@ Rule = Number × Bool
 abbrev pub judged : {A : Type 0} → Line → A → List Rule → Outcome A
 judged at a [] = accepted a
 judged at a (rule ∷ rules) = elim (rule .1) [ true ↦ judged at a rules | false ↦ refused (rule .0) at ]
-
--- Whether something is given
-abbrev pub given : {A : Type 0} → Option A → Bool
-given none = false
-given (some a) = true
 
 -- A class, wherever it stands: 1..40
 abbrev pub isClass : Class → Bool
@@ -59,34 +55,23 @@ follows most first second = isDay first && isDay second && between 1 most (day s
 abbrev pub dateRules : Date → List Rule
 dateRules d = (7, isDay d && leb d 23_991_220) ∷ []
 
--- Whether a C row's class is above the nearest one's
-abbrev pub classRises : List ClassRow → ClassRow → Bool
-classRises [] c = true
-classRises (a ∷ above) c = ltb (a .class) (c .class)
-
--- Whether a border is below another; no blank is
-abbrev pub lower : Option Duration → Option Duration → Bool
-lower none b = false
-lower (some a) none = false
-lower (some a) (some b) = ltb a b
-
--- Whether every class above of its kind has a lower border: so borders rise, and I and F have one class at most
-abbrev pub borderRises : List ClassRow → ClassRow → Bool
-borderRises [] c = true
-borderRises (a ∷ above) c = (not (sameKind (a .kind) (c .kind)) || lower (a .border) (c .border)) && borderRises above c
+-- Whether a C row may stand above another: its class is lower, and its border too where their kind is one
+-- (So I and F have one class at most.)
+abbrev pub mayPrecede : ClassRow → ClassRow → Bool
+mayPrecede a c =
+    ltb (a .class) (c .class) && (not (sameKind (a .kind) (c .kind)) || lower (a .border) (c .border))
 
 -- C rows: 6 fields; 8 at most 40; 9 classes and the borders of one kind rise
 abbrev pub classRules : List ClassRow → ClassRow → List Rule
 classRules above c =
     (6, isClass (c .class) && isDuration (c .kind) (c .border) && isFactor (c .deposit))
     ∷ (8, ltb (length above) 40)
-    ∷ (9, classRises above c && borderRises above c)
+    ∷ (9, every (λ a. mayPrecede a c) above)
     ∷ []
 
 -- Whether a class has a C row
 abbrev pub hasClass : List ClassRow → Class → Bool
-hasClass [] n = false
-hasClass (c ∷ cs) n = eqb (c .class) n || hasClass cs n
+hasClass cs n = given (firstThat (λ c. eqb (c .class) n) cs)
 
 -- O rows: 6 fields; 8 at most 200; 10 both classes are on the sheet
 abbrev pub priorityRules : List ClassRow → List PriorityRow → PriorityRow → List Rule
@@ -109,11 +94,6 @@ abbrev pub currencies : List SecurityRow → List Currency
 currencies [] = []
 currencies (s ∷ ss) = placed (s .currency) (currencies ss)
 
--- Whether an S row's code comes after the nearest one's
-abbrev pub codeRises : List SecurityRow → SecurityRow → Bool
-codeRises [] s = true
-codeRises (a ∷ above) s = before (a .code) (s .code)
-
 -- The fields of an S row that are no dates
 abbrev pub securityFields : SecurityRow → Bool
 securityFields s =
@@ -130,7 +110,7 @@ securityRules cs above s =
     (6, securityFields s)
     ∷ (7, follows 400 (s .previous) (s .next))
     ∷ (8, ltb (length above) 200 && leb (length (currencies (s ∷ above))) 8)
-    ∷ (9, codeRises above s)
+    ∷ (9, every (λ a. before (a .code) (s .code)) (take 1 above))
     ∷ (11, given (classOf cs (s .kind) (s .duration)))
     ∷ []
 

@@ -1,12 +1,9 @@
 -- The report (01, "Report and refusal numbers"): M lines, then for each currency its K lines and its Z line.
-use Prim.Native.Nat.{ℕ, _+_}
-use mathlib.Core.Bool.{Bool, true, false, cond}
-use mathlib.Core.List.{List, [], _∷_, _++_, map, filter}
-use lib.IntN.{ℤ, pos, _+ℤ_}
+use mathlib.Core.List.{List, [], _∷_, _++_, map}
 use Rattle.paper.specs.Units.{Text, Currency, SignedCents, Whole}
-use Rattle.paper.specs.Days.{sum}
-use Rattle.paper.specs.Text.{ascii, line, joinedUp, digits, signedDigits, same}
-use Rattle.paper.specs.Rows.{ClassRow, SecurityRow, Tables}
+use Rattle.paper.specs.Lists.{sum, signedSum, only, joinedUp}
+use Rattle.paper.specs.Text.{ascii, line, digits, signedDigits, same}
+use Rattle.paper.specs.Rows.{ClassRow, Tables}
 use Rattle.paper.specs.Valuation.{Valued, valuedIn}
 use Rattle.paper.specs.Refusals.{currencies}
 use Rattle.paper.specs.Offsetting.{Position, positionIn, Book, position, opening, offsetAll, margin, total}
@@ -33,18 +30,12 @@ currencyLine currency mark initial =
 
 -- The mark-to-market sum of a currency's margined trades, in cents
 abbrev pub markIn : Currency → List Valued → SignedCents
-markIn c [] = pos 0
-markIn c (v ∷ vs) = elim (same (v .security .currency) c) [ true ↦ v .mark +ℤ markIn c vs | false ↦ markIn c vs ]
-
--- The positions of a currency
-abbrev pub positionsIn : Currency → List Position → List Position
-positionsIn c [] = []
-positionsIn c (p ∷ ps) = elim (same (p .currency) c) [ true ↦ p ∷ positionsIn c ps | false ↦ positionsIn c ps ]
+markIn c vs = signedSum (map (λ v. v .mark) (only (λ v. same (v .security .currency) c) vs))
 
 -- A currency's lines: K for every class by rising number, and Z; the initial margin is the sum of the class margins
 abbrev pub currencyLines : Tables → List Valued → List Position → Currency → Text
 currencyLines t vs ps c =
-    let remaining = offsetAll (t .priorities) (opening (positionsIn c ps)) in
+    let remaining = offsetAll (t .priorities) (opening (only (λ p. same (p .currency) c) ps)) in
     joinedUp (map (classLine c remaining) (t .classes))
     ++ currencyLine c (markIn c vs) (sum (map (marginOf remaining) (t .classes)))
 

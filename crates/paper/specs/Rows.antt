@@ -1,11 +1,12 @@
 -- Rows (01, "The sheet"): the tables of a sheet, and how a row's fields are read and written.
--- Reading asks only for the form of a field; ranges and all else are the rules of Refusals.
+-- Reading asks only for the form of a field, and of a date for nothing; all else is left to the rules of Refusals.
 use Prim.Native.Nat.{ℕ}
-use mathlib.Core.Bool.{Bool, true, false}
+use mathlib.Core.Bool.{Bool}
 use mathlib.Core.List.{List, [], _∷_}
-use mathlib.Core.Option.{Option, none, some}
+use mathlib.Core.Option.{Option, some}
 use lib.ListN.{getD}
 use Rattle.paper.specs.Units.{Text, Fields, Date, Class, Code, Currency, Nominal, Quote, Payments, Duration, Factor, Rate, Cents}
+use Rattle.paper.specs.Lists.{firstThat, _>>=_}
 use Rattle.paper.specs.Text.{ascii, same, number, signed, dateIn, orBlank, blankOr, digits, signedDigits}
 
 -- Kinds of bond: G government, C corporate, I inflation linked, F floating
@@ -81,10 +82,9 @@ abbrev pub sideLetter : Side → Text
 sideLetter seller = ascii "S"
 sideLetter purchaser = ascii "P"
 
--- The value of a list whose letter a field is
+-- What a letter stands for, of a list
 abbrev pub named : {A : Type 0} → (A → Text) → List A → Text → Option A
-named letter [] t = none
-named letter (a ∷ others) t = elim (same (letter a) t) [ true ↦ some a | false ↦ named letter others t ]
+named letter all t = firstThat (λ a. same (letter a) t) all
 
 -- A kind, by its letter
 abbrev pub kindIn : Text → Option Kind
@@ -102,23 +102,13 @@ sideIn = named sideLetter (seller ∷ purchaser ∷ [])
 abbrev pub sameKind : Kind → Kind → Bool
 sameKind a b = same (kindLetter a) (kindLetter b)
 
-infixl 20 _>>=_
--- Fields are read one after the other; one that is ill formed leaves no row
-abbrev pub _>>=_ : {A B : Type 0} → Option A → (A → Option B) → Option B
-none >>= next = none
-some a >>= next = next a
-
 -- The field so many places behind the letter
 abbrev pub field : ℕ → Fields → Text
 field place fs = getD fs place []
 
--- A date is read whatever it is: it is refused later, by 7 and not by 6
-abbrev pub dateRead : Text → Option Date
-dateRead t = some (dateIn t)
-
 -- D rows, read: calculation date
 abbrev pub readDate : Fields → Option Date
-readDate fs = dateRead (field 1 fs)
+readDate fs = some (dateIn (field 1 fs))
 
 -- D rows, written
 abbrev pub writeDate : Date → Fields
@@ -158,9 +148,7 @@ readSecurity fs = do
   price ← number (field 5 fs)
   coupon ← number (field 6 fs)
   payments ← number (field 7 fs)
-  previous ← dateRead (field 8 fs)
-  next ← dateRead (field 9 fs)
-  some (record { code = field 1 fs; currency = field 2 fs; kind = kind; duration = duration; price = price; coupon = coupon; payments = payments; previous = previous; next = next })
+  some (record { code = field 1 fs; currency = field 2 fs; kind = kind; duration = duration; price = price; coupon = coupon; payments = payments; previous = dateIn (field 8 fs); next = dateIn (field 9 fs) })
 
 -- S rows, written
 abbrev pub writeSecurity : SecurityRow → Fields
@@ -175,10 +163,9 @@ readTrade fs = do
   side ← sideIn (field 2 fs)
   nominal ← number (field 4 fs)
   amount ← number (field 5 fs)
-  first ← dateRead (field 6 fs)
-  last ← orBlank dateRead (field 7 fs)
+  last ← orBlank (λ t. some (dateIn t)) (field 7 fs)
   rate ← orBlank signed (field 8 fs)
-  some (record { trade = trade; side = side; code = field 3 fs; nominal = nominal; amount = amount; first = first; last = last; rate = rate })
+  some (record { trade = trade; side = side; code = field 3 fs; nominal = nominal; amount = amount; first = dateIn (field 6 fs); last = last; rate = rate })
 
 -- T rows, written
 abbrev pub writeTrade : TradeRow → Fields

@@ -9,7 +9,7 @@ use lib.ListN.{length, getD, take, drop}
 use Rattle.paper.specs.Units.{Text, Fields, Line, Date}
 use Rattle.paper.specs.Days.{day}
 use Rattle.paper.specs.Text.{ascii, lines, same}
-use Rattle.paper.specs.Rows.{ClassRow, PriorityRow, SecurityRow, TradeRow, Tables, field, readDate, readClass, readPriority, readSecurity, readTrade}
+use Rattle.paper.specs.Rows.{Tables, field, readDate, readClass, readPriority, readSecurity, readTrade}
 use Rattle.paper.specs.Refusals.{Outcome, refused, accepted, _>>=_, Rule, judged, dateRules, classRules, priorityRules, securityRules, tradeRules}
 
 -- The lines that are left, with the number of the first

@@ -5,7 +5,8 @@ use mathlib.Core.List.{List, [], _∷_, _++_, map}
 use lib.Dec.{T}
 use Rattle.paper.specs.Units.{Text, Fields}
 use Rattle.paper.specs.Days.{day}
-use Rattle.paper.specs.Text.{ascii, line, joinedUp}
+use Rattle.paper.specs.Text.{ascii, line}
+use Rattle.paper.specs.Lists.{joinedUp}
 use Rattle.paper.specs.Rows.{Tables, writeDate, writeClass, writePriority, writeSecurity, writeTrade}
 use Rattle.paper.specs.Refusals.{Rule, dateRules, classRules, priorityRules, securityRules, tradeRules}
 

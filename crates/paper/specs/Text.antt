@@ -1,16 +1,16 @@
 -- Text (01, "The sheet"): lines, fields, and the forms of a field. Letters are held as their bytes.
-use Prim.Native.Nat.{ℕ, zero, suc, _+_, _-_, _*_, _/_, _%_, compare, Ordering, Ordering·lt, Ordering·eq, Ordering·gt}
+use Prim.Native.Nat.{ℕ, zero, suc, _+_, _-_, _*_, _/_, _%_, compare, Ordering·lt, Ordering·eq, Ordering·gt}
 use Prim.Native.String as S
 use Prim.Native.String.{String}
 use Prim.Native.Char.{code}
 use mathlib.Core.Bool.{Bool, true, false, cond, _&&_, _||_}
 use mathlib.Core.List.{List, [], _∷_, _++_}
-use mathlib.Core.Option.{Option, none, some}
+use mathlib.Core.Option.{Option, none, some, Option·map}
 use lib.Dec.{eqb, ltb}
 use lib.IntN.{ℤ, pos, negsuc}
 use lib.ListN.{length, take, drop}
 use Rattle.paper.specs.Units.{Byte, Text, Fields, Date}
-use Rattle.paper.specs.Days.{between}
+use Rattle.paper.specs.Lists.{between, every, when, _>>=_}
 
 -- Letters written out, as bytes
 abbrev pub ascii : String → Text
@@ -57,11 +57,6 @@ line [] = LF ∷ []
 line (f ∷ []) = f ++ (LF ∷ [])
 line (f ∷ g ∷ fs) = f ++ (semicolon ∷ line (g ∷ fs))
 
--- Texts one behind the other
-abbrev pub joinedUp : List Text → Text
-joinedUp [] = []
-joinedUp (t ∷ ts) = t ++ joinedUp ts
-
 -- Whether two texts are the same bytes
 abbrev pub same : Text → Text → Bool
 same [] [] = true
@@ -76,11 +71,6 @@ before [] (c ∷ t) = true
 before (b ∷ s) [] = false
 before (b ∷ s) (c ∷ t) = elim (compare b c) [ Ordering·lt ↦ true | Ordering·eq ↦ before s t | Ordering·gt ↦ false ]
 
--- Whether every byte passes a test
-abbrev pub every : (Byte → Bool) → Text → Bool
-every test [] = true
-every test (b ∷ bs) = elim (test b) [ true ↦ every test bs | false ↦ false ]
-
 -- 0 to 9
 abbrev pub isDigit : Byte → Bool
 isDigit = between 48 57
@@ -88,11 +78,6 @@ isDigit = between 48 57
 -- A to Z
 abbrev pub isLetter : Byte → Bool
 isLetter = between 65 90
-
--- A value where a test passes
-abbrev pub when : {A : Type 0} → Bool → A → Option A
-when true a = some a
-when false a = none
 
 -- What decimal digits mean, behind a number read so far
 abbrev pub decimal : ℕ → Text → ℕ
@@ -105,21 +90,15 @@ number [] = none
 number (b ∷ []) = when (isDigit b) (b - 48)
 number (b ∷ c ∷ bs) = when (between 49 57 b && every isDigit (c ∷ bs)) (decimal 0 (b ∷ c ∷ bs))
 
--- A number not below zero, as a signed one
-abbrev pub unsigned : Option ℕ → Option ℤ
-unsigned none = none
-unsigned (some n) = some (pos n)
+-- Below zero, by the size; `-0` is no number
+abbrev pub below : ℕ → Option ℤ
+below zero = none
+below (suc n) = some (negsuc n)
 
--- A number with `-` before it: `-0` is none
-abbrev pub negated : Option ℕ → Option ℤ
-negated none = none
-negated (some zero) = none
-negated (some (suc n)) = some (negsuc n)
-
--- A signed number, as the rate is one
+-- A number that may have `-` before it, as the rate
 abbrev pub signed : Text → Option ℤ
 signed [] = none
-signed (b ∷ bs) = cond (eqb b 45) (negated (number bs)) (unsigned (number (b ∷ bs)))
+signed (b ∷ bs) = cond (eqb b 45) (number bs >>= below) (Option·map pos (number (b ∷ bs)))
 
 -- A date's eight digits as one number; 0, which is no day, for anything else
 abbrev pub dateIn : Text → Date
@@ -140,7 +119,7 @@ isCurrency t = eqb (length t) 3 && every isLetter t
 -- A field that may be blank
 abbrev pub orBlank : {A : Type 0} → (Text → Option A) → Text → Option (Option A)
 orBlank read [] = some none
-orBlank read (b ∷ bs) = elim (read (b ∷ bs)) [ none ↦ none | some a ↦ some (some a) ]
+orBlank read (b ∷ bs) = Option·map some (read (b ∷ bs))
 
 -- A field that may be blank, as it is written
 abbrev pub blankOr : {A : Type 0} → (A → Text) → Option A → Text

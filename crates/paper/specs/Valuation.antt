@@ -1,16 +1,17 @@
 -- Valuation of a trade (01, "The rules", from Selection to Class; 002 decides).
-use Prim.Native.Nat.{ℕ, zero, suc, _+_, _-_, _*_}
-use mathlib.Core.Bool.{Bool, true, false, cond, _&&_}
+use Prim.Native.Nat.{suc, _+_, _-_, _*_}
+use mathlib.Core.Bool.{Bool, true, false, not, _&&_}
 use mathlib.Core.List.{List, [], _∷_, map}
-use mathlib.Core.Option.{Option, none, some, Option·getD}
+use mathlib.Core.Option.{Option, none, some, Option·getD, Option·map}
 use lib.Dec.{leb, ltb}
-use lib.IntN.{ℤ, pos, negsuc, _+ℤ_, _-ℤ_, _*ℤ_}
+use lib.IntN.{ℤ, pos, negsuc, _-ℤ_, _*ℤ_}
 use lib.ListN.{length}
-use Rattle.paper.specs.Units.{Line, Day, Days, Class, Code, Currency, Nominal, Quote, Payments, Duration, Rate, Cents, SignedCents, SignedWhole}
+use Rattle.paper.specs.Units.{Line, Day, Days, Class, Code, Nominal, Quote, Payments, Duration, Rate, Cents, SignedCents, SignedWhole}
 use Rattle.paper.specs.Rounding.{nearest, rounded}
 use Rattle.paper.specs.Days.{day, workingAfter}
+use Rattle.paper.specs.Lists.{only, firstThat, signedSum}
 use Rattle.paper.specs.Text.{same}
-use Rattle.paper.specs.Rows.{Kind, government, corporate, inflation, floating, Trade, repo, cash, Side, seller, purchaser, ClassRow, SecurityRow, TradeRow, Tables, sameKind}
+use Rattle.paper.specs.Rows.{Kind, Trade, repo, cash, Side, seller, purchaser, ClassRow, SecurityRow, TradeRow, Tables, sameKind}
 
 -- The last day of a repo
 abbrev pub lastDay : TradeRow → Day
@@ -63,8 +64,7 @@ markToMarket worth amount due side = (pos worth -ℤ pos amount -ℤ pos 100 *�
 
 -- The S row of a code
 abbrev pub securityOf : List SecurityRow → Code → Option SecurityRow
-securityOf [] c = none
-securityOf (s ∷ ss) c = elim (same (s .code) c) [ true ↦ some s | false ↦ securityOf ss c ]
+securityOf ss c = firstThat (λ s. same (s .code) c) ss
 
 -- A margined trade with its figures: worth is the revaluated amount × sign, worth and mark in cents
 pub record Valued : Type 0 where
@@ -97,28 +97,22 @@ valuedIn t =
     (3 + length (t .classes) + length (t .priorities) + length (t .securities))
     (t .trades)
 
--- A sum of signed amounts of one unit
-abbrev pub signedSum : List ℤ → ℤ
-signedSum [] = pos 0
-signedSum (z ∷ zs) = z +ℤ signedSum zs
-
 -- What each margined trade in a security is worth, in cents
 abbrev pub worthsIn : Code → List Valued → List SignedCents
-worthsIn c [] = []
-worthsIn c (v ∷ vs) = elim (same (v .security .code) c) [ true ↦ v .worth ∷ worthsIn c vs | false ↦ worthsIn c vs ]
+worthsIn c vs = map (λ v. v .worth) (only (λ v. same (v .security .code) c) vs)
 
 -- Netting (01): the worths of the trades in one security, summed in cents, then rounded to a whole unit
 abbrev pub net : List SignedCents → SignedWhole
 net worths = rounded (signedSum worths) 100
 
--- Whether a duration is not above a border; kinds I and F have neither
-abbrev pub within : Option Duration → Option Duration → Bool
-within none border = true
-within (some d) none = true
-within (some d) (some border) = leb d border
+-- Whether a border or duration is below another; kinds I and F have none, which is below none
+abbrev pub lower : Option Duration → Option Duration → Bool
+lower none b = false
+lower (some a) none = false
+lower (some a) (some b) = ltb a b
 
--- Class (01; 002 annex 1): of the kind, with the smallest border not below the duration; the first, since borders rise
+-- Class (01; 002 annex 1): of the kind, with the smallest border not below the duration: the first, since borders rise
 abbrev pub classOf : List ClassRow → Kind → Option Duration → Option Class
-classOf [] kind duration = none
-classOf (c ∷ cs) kind duration =
-    elim (sameKind (c .kind) kind && within duration (c .border)) [ true ↦ some (c .class) | false ↦ classOf cs kind duration ]
+classOf cs kind duration =
+    Option·map (λ c. c .class)
+    (firstThat (λ c. sameKind (c .kind) kind && not (lower (c .border) duration)) cs)
