@@ -25,6 +25,10 @@ LF = 10
 abbrev pub semicolon : Byte
 semicolon = 59
 
+-- The sign before a number below zero
+abbrev pub hyphen : Byte
+hyphen = 45
+
 -- A byte before the pieces of the text behind it: a mark opens a new piece, any other byte joins the first
 abbrev pub pieced : Bool → Byte → List Text → List Text
 pieced true b ps = [] ∷ ps
@@ -98,7 +102,7 @@ below (suc n) = some (negsuc n)
 -- A number that may have `-` before it, as the rate
 abbrev pub signed : Text → Option ℤ
 signed [] = none
-signed (b ∷ bs) = cond (eqb b 45) (number bs >>= below) (Option·map pos (number (b ∷ bs)))
+signed (b ∷ bs) = cond (eqb b hyphen) (number bs >>= below) (Option·map pos (number (b ∷ bs)))
 
 -- A date's eight digits as one number; 0, which is no day, for anything else
 abbrev pub dateIn : Text → Date
@@ -139,4 +143,4 @@ digits n = digitsBefore (suc n) n []
 -- A signed number as it is written: with `-` before it where it is below zero
 abbrev pub signedDigits : ℤ → Text
 signedDigits (pos n) = digits n
-signedDigits (negsuc n) = 45 ∷ digits (suc n)
+signedDigits (negsuc n) = hyphen ∷ digits (suc n)
