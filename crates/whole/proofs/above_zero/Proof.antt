@@ -1,3 +1,4 @@
+-- `above_zero` meets its contract: the sign's test tells which side of zero the number is on.
 use mathlib.Core.Path.{_≡_, refl, subst⁻¹}
 use lib.Dec.{T}
 use lib.IntN.{ℤ, natAbs}

@@ -1,3 +1,4 @@
+-- `below_zero` meets its contract: it is the part above zero of the number taken from zero.
 use borrow.Author.Needs.{needs}
 use native.Mathlib.Omega.{arith}
 use mathlib.Core.Path.{ap, _∙_}

@@ -1,3 +1,4 @@
+-- `difference` meets its contract: a difference is no larger than the two sizes together, so it fits.
 use lib.IntN.{_-ℤ_}
 use native.Mathlib.Nat.{lt-of-le-of-lt}
 use Rattle.whole.proofs.Signs.{size-difference, result-fits, result-is}

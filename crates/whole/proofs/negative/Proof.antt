@@ -1,3 +1,4 @@
+-- `negative` meets its contract: a number taken from zero is its negative.
 use borrow.Author.Needs.{needs}
 use Prim.Native.Nat.{_<_, _^_}
 use native.Mathlib.Omega.{arith}

@@ -1,3 +1,4 @@
+-- `positive` meets its contract: a number below 2 ^ 63 is read back from its bits as it is.
 use borrow.Author.Needs.{needs}
 use lib.IntN.{pos}
 use mir.Syntax.{w64}

@@ -1,3 +1,4 @@
+-- `product` meets its contract: a product's size is the product of the sizes, so it fits.
 use lib.IntN.{_*ℤ_}
 use mathlib.Core.Path.{subst⁻¹}
 use Prim.Native.Nat.{ℕ, _<_, _^_}
