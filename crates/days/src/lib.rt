@@ -1,0 +1,182 @@
+// Days: what day a date of eight digits is, and which working day comes after a day.
+mod table;
+
+pub use table::new_years;
+ghost use mathlib.Core.Bool.{true};
+ghost use mathlib.Core.Path.{_≡_};
+ghost use Prim.Native.Nat.{_<_};
+ghost use lib.ListN.{take, drop, getD};
+ghost use Rattle.paper.specs.Lists.{sum};
+ghost use Rattle.paper.specs.Days.{leap, newYears, monthDays, isReal, dayIn, dayOf, weekday, isOpen, workingAfter};
+ghost use Rattle.paper.specs.Text.{dateIn};
+ghost use Rattle.days.specs.Dated.{dated};
+
+pub type Date = u64; // eight digits as one number
+
+pub type Day = u64; // days from 1 January 2000
+
+pub type Year = u64; // of the Gregorian calendar
+
+pub type Month = u64; // of a year, from 0
+
+pub type Days = u64; // a number of days
+
+pub type DayOfWeek = u64; // 0 for Monday to 6 for Sunday
+
+pub type Place = usize; // in a text, in bytes from its start
+
+// What a date is: a day, or nothing where there is no such day of 2000 to 2399.
+pub enum Dated {
+    Day(Day),
+    Nothing,
+}
+
+const LENGTHS: [Days; 12] = [31, 28, 31, 30, 31, 30, 31, 31, 30, 31, 30, 31]; // days of each month of a common year
+
+const BEFORE: [Days; 12] = [0, 31, 59, 90, 120, 151, 181, 212, 243, 273, 304, 334]; // days before each, in a common year
+
+const BEFORE_LEAP: [Days; 12] = [0, 31, 60, 91, 121, 152, 182, 213, 244, 274, 305, 335]; // days before each, in a leap year
+
+// Every fourth year, but of the centuries every fourth only.
+fn is_leap(y: Year) -> bool
+    ensures { λ r. ⌜ r ≡ leap y ⌝ }
+{
+    y % 4 == 0 && (y % 100 != 0 || y % 400 == 0)
+}
+
+// The days of a month; 0 past December.
+fn month_days(y: Year, month: Month) -> Days
+    ensures { λ r. ⌜ r ≡ getD (monthDays y) month 0 ⌝ }
+{
+    if 11 < month {
+        return 0;
+    }
+    if month == 1 {
+        if is_leap(y) { 29 } else { 28 }
+    } else {
+        LENGTHS[month as usize]
+    }
+}
+
+// The days of a year before a month.
+fn days_before(y: Year, month: Month) -> Days
+    requires { ⌜ month < 12 ⌝ }
+    ensures { λ r. ⌜ r ≡ sum (take month (monthDays y)) ⌝ }
+{
+    if is_leap(y) {
+        BEFORE_LEAP[month as usize]
+    } else {
+        BEFORE[month as usize]
+    }
+}
+
+// Whether there is such a day of the month; `day` counts from 0.
+fn is_real(y: Year, month: Month, day: Days) -> bool
+    ensures { λ r. ⌜ r ≡ isReal y month day ⌝ }
+{
+    if y < 2000 {
+        return false;
+    }
+    if 2399 < y {
+        return false;
+    }
+    day < month_days(y, month)
+}
+
+// The day of a year, a month and a day of the month that are real.
+fn day_in(years: &[Day; 400], y: Year, month: Month, day: Days) -> Day
+    requires { ⌜ now years ≡ newYears ⌝ }
+    requires { ⌜ isReal y month day ≡ true ⌝ }
+    ensures { λ r. ⌜ r ≡ dayIn y month day ⌝ }
+{
+    years[(y - 2000) as usize] + days_before(y, month) + day
+}
+
+// The day of a date. `years` is what `new_years` gives: the caller makes it once, and lends it.
+pub fn day_of(years: &[Day; 400], date: Date) -> Dated
+    requires { ⌜ now years ≡ newYears ⌝ }
+    ensures { λ r. ⌜ r ≡ dated (dayOf date) ⌝ }
+{
+    let y: Year = date / 10_000;
+    let month = date / 100 % 100; // of the year, from 1
+    let day = date % 100; // of the month, from 1
+    if month < 1 {
+        return Dated::Nothing;
+    }
+    if day < 1 {
+        return Dated::Nothing;
+    }
+    if is_real(y, month - 1, day - 1) {
+        Dated::Day(day_in(years, y, month - 1, day - 1))
+    } else {
+        Dated::Nothing
+    }
+}
+
+// Eight digits as one number; 0, which is no date, for anything else.
+fn eight_digits(s: &[u8], at: Place) -> Date
+    ensures { λ r. ⌜ r ≡ dateIn (take 8 (drop at (now (s .entry)))) ⌝ }
+{
+    if s.len() < at {
+        return 0;
+    }
+    if s.len() - at < 8 {
+        return 0;
+    }
+    let mut n: Date = 0;
+    let mut i: usize = 0; // digits read
+    while i < 8 {
+        let b = s[at + i] as u64; // a byte
+        if b < 48 {
+            return 0;
+        }
+        if 57 < b {
+            return 0;
+        }
+        n = 10 * n + (b - 48);
+        i += 1;
+    }
+    n
+}
+
+// The day of the date that the eight bytes at a place of a text are.
+pub fn date_at(years: &[Day; 400], s: &[u8], at: Place) -> Dated
+    requires { ⌜ now years ≡ newYears ⌝ }
+    ensures { λ r. ⌜ r ≡ dated (dayOf (dateIn (take 8 (drop at (now (s .entry)))))) ⌝ }
+{
+    day_of(years, eight_digits(s, at))
+}
+
+// The weekday: 1 January 2000 was a Saturday.
+pub fn weekday(day: Day) -> DayOfWeek
+    ensures { λ r. ⌜ r ≡ weekday day ⌝ }
+{
+    (day % 7 + 5) % 7
+}
+
+// Whether a day is a working day: another calendar changes this function, and the days left in `working_after`.
+pub fn is_open(day: Day) -> bool
+    ensures { λ r. ⌜ r ≡ isOpen day ⌝ }
+{
+    weekday(day) < 5
+}
+
+// The first working day after a day. The third day is open where the first two are not, so it is not tested.
+pub fn working_after(day: Day) -> Day
+    requires { ⌜ day < 146_097 ⌝ }
+    ensures { λ r. ⌜ r ≡ workingAfter day ⌝ }
+{
+    let mut d: Day = day + 1;
+    let mut left: Days = 2; // days to step
+    let first: Day = loop {
+        if left == 0 {
+            break d;
+        }
+        if is_open(d) {
+            break d;
+        }
+        d += 1;
+        left -= 1;
+    };
+    first
+}
