@@ -4,7 +4,7 @@ mod table;
 pub use table::new_years;
 ghost use mathlib.Core.Bool.{true};
 ghost use mathlib.Core.Path.{_≡_};
-ghost use Prim.Native.Nat.{_<_};
+ghost use Prim.Native.Nat.{_+_, _*_, _/_, _≤_, _<_};
 ghost use lib.ListN.{take, drop, getD};
 ghost use Rattle.paper.specs.Lists.{sum};
 ghost use Rattle.paper.specs.Days.{leap, newYears, monthDays, isReal, dayIn, dayOf, weekday, isOpen, workingAfter};
@@ -31,17 +31,20 @@ pub enum Dated {
     Nothing,
 }
 
-const LENGTHS: [Days; 12] = [31, 28, 31, 30, 31, 30, 31, 31, 30, 31, 30, 31]; // days of each month of a common year
-
-const BEFORE: [Days; 12] = [0, 31, 59, 90, 120, 151, 181, 212, 243, 273, 304, 334]; // days before each, in a common year
-
-const BEFORE_LEAP: [Days; 12] = [0, 31, 60, 91, 121, 152, 182, 213, 244, 274, 305, 335]; // days before each, in a leap year
-
 // Every fourth year, but of the centuries every fourth only.
 fn is_leap(y: Year) -> bool
     ensures { λ r. ⌜ r ≡ leap y ⌝ }
 {
     y % 4 == 0 && (y % 100 != 0 || y % 400 == 0)
+}
+
+// The days of a year before a month, were February of 30 days: then months have 31 and 30 by turns, July and August both
+// 31. A formula, since a table would be written to the stack whole at each use.
+fn even_before(month: Month) -> Days
+    requires { ⌜ month ≤ 12 ⌝ }
+    ensures { λ r. ⌜ r ≡ (367 * month + 5) / 12 ⌝ }
+{
+    (367 * month + 5) / 12
 }
 
 // The days of a month; 0 past December.
@@ -54,7 +57,7 @@ fn month_days(y: Year, month: Month) -> Days
     if month == 1 {
         if is_leap(y) { 29 } else { 28 }
     } else {
-        LENGTHS[month as usize]
+        even_before(month + 1) - even_before(month)
     }
 }
 
@@ -63,11 +66,11 @@ fn days_before(y: Year, month: Month) -> Days
     requires { ⌜ month < 12 ⌝ }
     ensures { λ r. ⌜ r ≡ sum (take month (monthDays y)) ⌝ }
 {
-    if is_leap(y) {
-        BEFORE_LEAP[month as usize]
-    } else {
-        BEFORE[month as usize]
+    let even = even_before(month); // days
+    if month < 2 {
+        return even;
     }
+    if is_leap(y) { even - 1 } else { even - 2 }
 }
 
 // Whether there is such a day of the month; `day` counts from 0.

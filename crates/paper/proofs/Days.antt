@@ -1,6 +1,5 @@
 -- Laws of the definitions of days. What a day being open means is looked into by `one-of-three` alone: another calendar
 -- proves that law again, and callers go by `firstOpen`'s steps and by what is said of `workingAfter`.
--- Assumes nothing.
 use Prim.Native.Nat.{ℕ, zero, suc, _+_, _-_, _/_, _%_, _≤_, _<_}
 use native.Mathlib.Nat.{le-refl, le-of-lt, eq-or-lt-of-le, not-suc-le-zero, add-zero, add-suc, suc-add}
 use native.Mathlib.Numerals.{add-one}
@@ -98,7 +97,7 @@ months-year y = go (leap y)
 
 -- The table's days are below those of the 400 years, by one test of all its entries
 new-year-below : (i : ℕ) → i < 400 → getD newYears i 0 < 146_097
-new-year-below i h = ltb-true (getD newYears i 0) 146_097 (every-at (λ x. ltb x 146_097) newYears refl i h)
+new-year-below i h = ltb-true (getD newYears i 0) 146_097 (every-at (λ x. ltb x 146_097) newYears 0 refl i h)
 
 -- No year of the table ends past them
 year-within : (i : ℕ) → i < 400 → getD newYears i 0 + yearDays (2000 + i) ≤ 146_097

@@ -1,11 +1,10 @@
 -- Laws of the tools for lists and tests.
--- Assumes nothing.
 use Prim.Native.Nat.{ℕ, zero, suc, _+_, _≤_, _<_}
 use native.Mathlib.Nat.{le-of-suc-le-suc, not-suc-le-zero}
 use native.Mathlib.Omega.{arith}
 use mathlib.Core.Bool.{Bool, true, false, _&&_}
 use mathlib.Core.List.{List, [], _∷_}
-use mathlib.Core.Option.{some}
+use mathlib.Core.Option.{some, Option·some-injective, Option·none-ne-some}
 use mathlib.Core.Path.{_≡_, refl, sym, subst}
 use lib.Dec.{T}
 use lib.ListN.{length, getD, take}
@@ -21,12 +20,12 @@ both true b e = (refl, e)
 both false b e = never e
 
 -- Something is there only where its test passes
-pub when-some : (b : Bool) (a d : ℕ) → when b a ≡ some d → (b ≡ true) × (a ≡ d)
-when-some true a d e = (refl, cc)
-when-some false a d e = let z : _≡_ {A = ℕ} 0 1 = cc in absurd (omega arith)
+pub when-some : {A : Type 0} (b : Bool) (a d : A) → when b a ≡ some d → (b ≡ true) × (a ≡ d)
+when-some true a d e = (refl, Option·some-injective a d e)
+when-some false a d e = absurd (Option·none-ne-some d e)
 
 -- All pass: the first, and the rest
-every-cons : (test : ℕ → Bool) (x : ℕ) (xs : List ℕ) → every test (x ∷ xs) ≡ true → (test x ≡ true) × (every test xs ≡ true)
+every-cons : {A : Type 0} (test : A → Bool) (x : A) (xs : List A) → every test (x ∷ xs) ≡ true → (test x ≡ true) × (every test xs ≡ true)
 every-cons test x xs e = go (test x) refl
   where
     go : (b : Bool) → test x ≡ b → (test x ≡ true) × (every test xs ≡ true)
@@ -34,10 +33,11 @@ every-cons test x xs e = go (test x) refl
     go false k = never (rw (k, every) at e)
 
 -- A test that all entries of a table pass, computed once, passes at each place
-pub every-at : (test : ℕ → Bool) (xs : List ℕ) → every test xs ≡ true → (i : ℕ) → i < length xs → test (getD xs i 0) ≡ true
-every-at test [] e i h = absurd (not-suc-le-zero h)
-every-at test (x ∷ xs) e zero h = every-cons test x xs e .0
-every-at test (x ∷ xs) e (suc i) h = every-at test xs (every-cons test x xs e .1) i (le-of-suc-le-suc h)
+pub every-at : {A : Type 0} (test : A → Bool) (xs : List A) (other : A) → every test xs ≡ true
+    → (i : ℕ) → i < length xs → test (getD xs i other) ≡ true
+every-at test [] other e i h = absurd (not-suc-le-zero h)
+every-at test (x ∷ xs) other e zero h = every-cons test x xs e .0
+every-at test (x ∷ xs) other e (suc i) h = every-at test xs other (every-cons test x xs e .1) i (le-of-suc-le-suc h)
 
 -- The entries before a place and the entry there are no more than the whole
 pub sum-part : (xs : List ℕ) (i : ℕ) → sum (take i xs) + getD xs i 0 ≤ sum xs

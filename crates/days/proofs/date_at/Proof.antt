@@ -1,5 +1,4 @@
 -- `days::date_at` meets its contract, by what its two calls ensure.
--- Assumes nothing.
 use mathlib.Core.Path.{ap, _∙_}
 use borrow.Author.Needs.{needs}
 use Rattle.paper.specs.Units.{Date}

@@ -1,5 +1,4 @@
 -- `days::day_in` meets its contract: the table that is lent is the paper's, and the sum fits since its date is real.
--- Assumes nothing.
 use Prim.Native.Nat.{ℕ, _+_, _-_, _<_}
 use mathlib.Core.List.{List}
 use mathlib.Core.Path.{_≡_, sym, ap, subst, _∙_}

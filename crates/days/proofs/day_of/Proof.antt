@@ -1,5 +1,4 @@
 -- `days::day_of` meets its contract: each way out rewrites with the tests that led there.
--- Assumes nothing.
 use mathlib.Core.Path.{sym, ap, _∙_}
 use borrow.Author.Needs.{needs}
 use borrow.Author.Tests.{lt-leb, le-leb}

@@ -1,70 +1,59 @@
--- `days::days_before` meets its contract: each table is the running sums of its year's months.
--- Assumes nothing.
-use Prim.Native.Nat.{ℕ, zero, suc, _+_, _<_}
-use native.Mathlib.Nat.{le-of-suc-le-suc, not-suc-le-zero, add-zero, zero-add, add-assoc}
-use mathlib.Core.Bool.{Bool, true, false}
-use mathlib.Core.List.{List, [], _∷_}
+-- `days::days_before` meets its contract: before March the formula holds, and from March on February is taken at its length.
+use Prim.Native.Nat.{ℕ, _-_, _<_, _≤_}
+use mathlib.Core.Bool.{Bool, true, false, cond}
 use mathlib.Core.Path.{_≡_, sym, ap, _∙_}
 use borrow.Author.Needs.{needs}
-use lib.ListN.{length, getD, take}
+use borrow.Author.Tests.{lt-ltb, le-ltb}
+use lib.ListN.{take}
 use Rattle.paper.specs.Units.{Year}
 use Rattle.paper.specs.Lists.{sum}
 use Rattle.paper.specs.Days.{leap, monthDays}
-use Rattle.days.proofs.Months.{months}
+use Rattle.days.proofs.Months.{months, even, before-month}
 use Rattle.days.proofs.days_before.Statement.{statement}
 use Rattle.days.proofs.days_before.Tie as tie
 
--- The sum before each entry, on top of a number
-abbrev running : ℕ → List ℕ → List ℕ
-running n [] = []
-running n (x ∷ xs) = n ∷ running (n + x) xs
+-- From March on, in a year that is leap or not
+since-march : (leap? : Bool) (y : Year) (month : ℕ) → month < 12 → 2 ≤ month → leap y ≡ leap?
+    → cond leap? (even month - 1) (even month - 2) ≡ sum (take month (monthDays y))
+since-march leap? y month h m e =
+    ap (λ (b : Bool). cond b (even month) (cond leap? (even month - 1) (even month - 2))) (sym (le-ltb month 2 m))
+    ∙ before-month leap? month h
+    ∙ ap (λ (b : Bool). sum (take month (months b))) (sym e)
 
-on-top : (n : ℕ) (xs : List ℕ) (i : ℕ) → i < length xs → getD (running n xs) i 0 ≡ n + sum (take i xs)
-on-top n [] i h = absurd (not-suc-le-zero h)
-on-top n (x ∷ xs) zero h = sym (add-zero n)
-on-top n (x ∷ xs) (suc i) h = on-top (n + x) xs i (le-of-suc-le-suc h) ∙ add-assoc n x (sum (take i xs))
+even-before-requires : tie.Need-even-before-requires
+even-before-requires c κs = search needs
 
-before : (xs : List ℕ) (i : ℕ) → i < length xs → getD (running 0 xs) i 0 ≡ sum (take i xs)
-before xs i h = on-top 0 xs i h ∙ zero-add (sum (take i xs))
-
--- The same of the months of a year, which is leap or not
-of-year : (leap? : Bool) (y : Year) (month : ℕ) → month < 12 → leap y ≡ leap?
-    → getD (running 0 (months leap?)) month 0 ≡ sum (take month (monthDays y))
-of-year leap? y month h e = before (months leap?) month h ∙ ap (λ (b : Bool). sum (take month (months b))) (sym e)
+returns : tie.Need-returns
+returns c =
+    let s = c .before .before in
+    c .before .even-before .ensures
+    ∙ ap (λ (b : Bool). cond b (even (s .args .month)) (cond (leap (s .args .y)) (even (s .args .month) - 1) (even (s .args .month) - 2))) (sym (lt-ltb (s .args .month) 2 (c .if1 .taken)))
+    ∙ before-month (leap (s .args .y)) (s .args .month) (s .pre)
 
 is-leap-requires : tie.Need-is-leap-requires
 is-leap-requires c κs = search needs
 
-mul-result : tie.Need-mul-result
-mul-result c = search needs
+sub-result : tie.Need-sub-result
+sub-result c = search needs
 
-array-read-result : tie.Need-array-read-result
-array-read-result c = search needs
-
-mul-result-2 : tie.Need-mul-result-2
-mul-result-2 c = search needs
-
-array-read-result-2 : tie.Need-array-read-result-2
-array-read-result-2 c = search needs
-
-returns : tie.Need-returns
-returns c =
-    let a = c .before .before .args in
-    of-year true (a .y) (a .month) (c .before .before .pre) (sym (c .before .is-leap .ensures) ∙ c .if1 .taken)
+sub-result-2 : tie.Need-sub-result-2
+sub-result-2 c = search needs
 
 returns-2 : tie.Need-returns-2
 returns-2 c =
-    let a = c .before .before .args in
-    of-year false (a .y) (a .month) (c .before .before .pre) (sym (c .before .is-leap .ensures) ∙ c .if1 .left)
+    let t = c .before .before in
+    let s = t .before .before in
+    ap (λ (n : ℕ). n - 1) (t .before .even-before .ensures)
+    ∙ since-march true (s .args .y) (s .args .month) (s .pre) (t .if1 .left) (sym (c .before .is-leap .ensures) ∙ c .if2 .taken)
+
+returns-3 : tie.Need-returns-3
+returns-3 c =
+    let t = c .before .before in
+    let s = t .before .before in
+    ap (λ (n : ℕ). n - 2) (t .before .even-before .ensures)
+    ∙ since-march false (s .args .y) (s .args .month) (s .pre) (t .if1 .left) (sym (c .before .is-leap .ensures) ∙ c .if2 .left)
 
 pub days-before-spec : {M : Type 1} → statement M
 days-before-spec =
     tie.close
-    (tie.spec
-    is-leap-requires
-    mul-result
-    array-read-result
-    mul-result-2
-    array-read-result-2
-    returns
-    returns-2)
+    (tie.spec even-before-requires returns is-leap-requires sub-result sub-result-2 returns-2 returns-3)

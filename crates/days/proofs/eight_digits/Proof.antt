@@ -1,5 +1,5 @@
 -- `days::eight_digits` meets its contract. The loop's invariant: the bytes that are left, read on from `n`, make the date,
--- and whether all are digits is whether those are. The measure is the digits left. Assumes nothing.
+-- and whether all are digits is whether those are. The measure is the digits left.
 use Prim.Native.Nat.{ℕ, _+_, _-_, _*_, _^_, _≤_, _<_}
 use native.Mathlib.Nat.{pow-succ', pow-le-pow-right, lt-of-lt-of-le}
 use native.Mathlib.Numerals.{add-one}

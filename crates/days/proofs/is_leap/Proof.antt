@@ -1,5 +1,4 @@
 -- `days::is_leap` meets its contract: each way out rewrites with the tests that led there.
--- Assumes nothing.
 use borrow.Author.Tests.{eq-eqb, ne-eqb}
 use Rattle.days.proofs.is_leap.Statement.{statement}
 use Rattle.days.proofs.is_leap.Tie as tie

@@ -1,5 +1,4 @@
 -- `days::is_open` meets its contract: its test is that of the paper's `isOpen`, on what `weekday` gives.
--- Assumes nothing.
 use Prim.Native.Nat.{ℕ}
 use borrow.Author.Needs.{needs}
 use mathlib.Core.Path.{ap}

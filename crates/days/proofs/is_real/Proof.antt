@@ -1,5 +1,4 @@
 -- `days::is_real` meets its contract: each way out rewrites with the tests that led there.
--- Assumes nothing.
 use borrow.Author.Needs.{needs}
 use borrow.Author.Tests.{lt-leb, le-leb}
 use Rattle.days.proofs.is_real.Statement.{statement}

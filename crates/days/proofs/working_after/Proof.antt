@@ -1,5 +1,5 @@
 -- `days::working_after` meets its contract. The loop's invariant: the search from `d` with `left` days to step finds the
--- day that is asked for. The measure is the days left. Nothing here looks into what makes a day open. Assumes nothing.
+-- day that is asked for. The measure is the days left. Nothing here looks into what makes a day open.
 use Prim.Native.Nat.{ℕ, zero, suc, _+_, _-_, _≤_, _<_}
 use native.Mathlib.Nat.{not-suc-le-zero}
 use native.Mathlib.Numerals.{add-one, sub-one}
