@@ -53,23 +53,26 @@ size-product (pos a) (negsuc b) = size-neg (pos (a * suc b))
 size-product (negsuc a) (pos b) = size-neg (pos (suc a * b))
 size-product (negsuc a) (negsuc b) = refl
 
--- ---- an operation on two signed locals
+-- ---- what is read back from a signed local
 
+-- A number that is known is read back as it is
+pub read-back : {r : ℤ} (z : ℤ) → r ≡ z → natAbs z < 2 ^ 63 → toZ w64 (ofZ w64 r) ≡ z
+read-back z e small = ap (λ (x : ℤ). toZ w64 (ofZ w64 x)) e ∙ toZ-ofZ w64 z (fits z small)
+
+-- So is what an operation makes of two numbers that are known
+pub carried : (op : ℤ → ℤ → ℤ) {a b r : ℤ} (x y : ℤ) → a ≡ x → b ≡ y → r ≡ op a b → natAbs (op x y) < 2 ^ 63
+    → toZ w64 (ofZ w64 r) ≡ op x y
+carried op x y p q e small = read-back (op x y) (e ∙ ap₂ op p q) small
+
+-- An operation on two signed parameters
 module _ (op : ℤ → ℤ → ℤ) (a b : ℤ) (fa : SFits w64 a) (fb : SFits w64 b) (small : natAbs (op a b) < 2 ^ 63) where
-  operands : op (toZ w64 (ofZ w64 a)) (toZ w64 (ofZ w64 b)) ≡ op a b
-  operands = ap₂ op (toZ-ofZ w64 a fa) (toZ-ofZ w64 b fb)
-
   -- What it gives fits
   pub result-fits : SFits w64 (op (toZ w64 (ofZ w64 a)) (toZ w64 (ofZ w64 b)))
-  result-fits = subst⁻¹ (SFits w64) operands (fits (op a b) small)
+  result-fits = subst⁻¹ (SFits w64) (ap₂ op (toZ-ofZ w64 a fa) (toZ-ofZ w64 b fb)) (fits (op a b) small)
 
   -- What it gives is the operation on the two numbers
   pub result-is : toZ w64 (ofZ w64 (op (toZ w64 (ofZ w64 a)) (toZ w64 (ofZ w64 b)))) ≡ op a b
-  result-is = ap (λ (z : ℤ). toZ w64 (ofZ w64 z)) operands ∙ toZ-ofZ w64 (op a b) (fits (op a b) small)
-
--- A number that is known is read back from the local that holds it
-pub read-back : {r : ℤ} (z : ℤ) → r ≡ z → natAbs z < 2 ^ 63 → toZ w64 (ofZ w64 r) ≡ z
-read-back z e small = ap (λ (x : ℤ). toZ w64 (ofZ w64 x)) e ∙ toZ-ofZ w64 z (fits z small)
+  result-is = carried op a b (toZ-ofZ w64 a fa) (toZ-ofZ w64 b fb) refl small
 
 -- A local taken from zero holds its negative
 pub from-zero : {r : ℤ} (z : ℤ) → natAbs z < 2 ^ 63 → r ≡ pos 0 -ℤ toZ w64 (ofZ w64 z) → toZ w64 (ofZ w64 r) ≡ negℤ z
