@@ -8,7 +8,7 @@ use Rattle.paper.specs.Valuation.{Valued, valuedIn}
 use Rattle.paper.specs.Refusals.{currencies}
 use Rattle.paper.specs.Offsetting.{Position, positionIn, Book, position, opening, offsetAll, margin, total}
 
--- M;line;currency;mark-to-market, for a margined trade
+-- M;line;currency;mark-to-market, for a margined trade: cents
 abbrev pub tradeLine : Valued → Text
 tradeLine v = line (ascii "M" ∷ digits (v .line) ∷ v .security .currency ∷ signedDigits (v .mark) ∷ [])
 
@@ -16,14 +16,14 @@ tradeLine v = line (ascii "M" ∷ digits (v .line) ∷ v .security .currency ∷
 abbrev pub marginOf : Book → ClassRow → Whole
 marginOf b c = margin (c .deposit) (position (b .long) (c .class)) (position (b .short) (c .class))
 
--- K;currency;class;long;short;margin, for a class in a currency: its remaining positions
+-- K;currency;class;long;short;margin, for a class in a currency: remaining positions and margin in whole units
 abbrev pub classLine : Currency → Book → ClassRow → Text
 classLine currency b c =
     line
     (ascii "K" ∷ currency ∷ digits (c .class) ∷ digits (position (b .long) (c .class)) ∷ digits (position (b .short) (c .class))
     ∷ digits (marginOf b c) ∷ [])
 
--- Z;currency;mark-to-market;initial;total, for a currency
+-- Z;currency;mark-to-market;initial;total, for a currency: cents, whole units, cents
 abbrev pub currencyLine : Currency → SignedCents → Whole → Text
 currencyLine currency mark initial =
     line (ascii "Z" ∷ currency ∷ signedDigits mark ∷ digits initial ∷ digits (total initial mark) ∷ [])

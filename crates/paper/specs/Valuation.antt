@@ -26,7 +26,7 @@ margined today t =
 abbrev pub accrualDay : Day → TradeRow → Day
 accrualDay today t = elim (t .trade) [ cash ↦ day (t .first) | repo ↦ workingAfter today ]
 
--- Accrued coupon (01; 002 step 3): yearly coupon × days run / (payments a year × days of the period)
+-- Accrued coupon (01; 002 step 3): yearly coupon × days run / (payments a year × days of the period), as the coupon's unit
 abbrev pub accrued : Quote → Payments → Days → Days → Quote
 accrued coupon payments run period = nearest (coupon * run) (payments * period)
 
