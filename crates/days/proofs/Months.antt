@@ -2,7 +2,6 @@
 use Prim.Native.Nat.{ℕ, zero, suc, _+_, _-_, _*_, _/_, _<_}
 use native.Mathlib.Nat.{le-of-suc-le-suc, not-suc-le-zero, eq-or-lt-of-le}
 use mathlib.Core.Bool.{Bool, true, false, cond, _&&_}
-use mathlib.Core.List.{List, [], _∷_}
 use mathlib.Core.Logic.{⊎-elim}
 use mathlib.Core.Path.{_≡_, refl, sym, subst}
 use borrow.Author.Tests.{eqb-true}
@@ -10,11 +9,8 @@ use lib.Dec.{eqb, ltb}
 use lib.ListN.{getD, take}
 use Rattle.paper.specs.Units.{Days}
 use Rattle.paper.specs.Lists.{sum}
+use Rattle.paper.specs.Days.{monthDays}
 use Rattle.paper.proofs.Lists.{both}
-
--- The days of each month of a leap year, or of a common one: the paper's `monthDays y` is this at `leap y`
-abbrev pub months : Bool → List Days
-months leap = 31 ∷ cond leap 29 28 ∷ 31 ∷ 30 ∷ 31 ∷ 30 ∷ 31 ∷ 31 ∷ 30 ∷ 31 ∷ 30 ∷ 31 ∷ []
 
 -- What `even_before` answers, in days
 abbrev pub even : ℕ → Days
@@ -34,16 +30,16 @@ agrees f g (suc n) t i h =
 
 -- A month's days: what the formula rises by, but for February
 pub month-length : (leap : Bool) (month : ℕ) → month < 12
-    → cond (eqb month 1) (cond leap 29 28) (even (month + 1) - even month) ≡ getD (months leap) month 0
+    → cond (eqb month 1) (cond leap 29 28) (even (month + 1) - even month) ≡ getD (monthDays leap) month 0
 month-length true =
-    agrees (λ m. cond (eqb m 1) 29 (even (m + 1) - even m)) (λ m. getD (months true) m 0) 12 refl
+    agrees (λ m. cond (eqb m 1) 29 (even (m + 1) - even m)) (λ m. getD (monthDays true) m 0) 12 refl
 month-length false =
-    agrees (λ m. cond (eqb m 1) 28 (even (m + 1) - even m)) (λ m. getD (months false) m 0) 12 refl
+    agrees (λ m. cond (eqb m 1) 28 (even (m + 1) - even m)) (λ m. getD (monthDays false) m 0) 12 refl
 
 -- The days before a month: from March on the formula's February was one or two days too long
 pub before-month : (leap : Bool) (month : ℕ) → month < 12
-    → cond (ltb month 2) (even month) (cond leap (even month - 1) (even month - 2)) ≡ sum (take month (months leap))
+    → cond (ltb month 2) (even month) (cond leap (even month - 1) (even month - 2)) ≡ sum (take month (monthDays leap))
 before-month true =
-    agrees (λ m. cond (ltb m 2) (even m) (even m - 1)) (λ m. sum (take m (months true))) 12 refl
+    agrees (λ m. cond (ltb m 2) (even m) (even m - 1)) (λ m. sum (take m (monthDays true))) 12 refl
 before-month false =
-    agrees (λ m. cond (ltb m 2) (even m) (even m - 2)) (λ m. sum (take m (months false))) 12 refl
+    agrees (λ m. cond (ltb m 2) (even m) (even m - 2)) (λ m. sum (take m (monthDays false))) 12 refl

@@ -49,7 +49,7 @@ fn even_before(month: Month) -> Days
 
 // The days of a month; 0 past December.
 fn month_days(y: Year, month: Month) -> Days
-    ensures { λ r. ⌜ r ≡ getD (monthDays y) month 0 ⌝ }
+    ensures { λ r. ⌜ r ≡ getD (monthDays (leap y)) month 0 ⌝ }
 {
     if 11 < month {
         return 0;
@@ -64,7 +64,7 @@ fn month_days(y: Year, month: Month) -> Days
 // The days of a year before a month.
 fn days_before(y: Year, month: Month) -> Days
     requires { ⌜ month < 12 ⌝ }
-    ensures { λ r. ⌜ r ≡ sum (take month (monthDays y)) ⌝ }
+    ensures { λ r. ⌜ r ≡ sum (take month (monthDays (leap y))) ⌝ }
 {
     let even = even_before(month); // days
     if month < 2 {

@@ -88,12 +88,9 @@ pub new-years-step : (i : ℕ) → i + 1 < 400 → getD newYears (i + 1) 0 ≡ g
 new-years-step i h = rw add-one (steps 400 2000 0 i (omega arith))
 
 -- The months of a year are its days
-months-year : (y : Year) → sum (monthDays y) ≡ yearDays y
-months-year y = go (leap y)
-  where
-    go : (b : Bool) → 31 + (cond b 29 28 + 306) ≡ cond b 366 365
-    go true = refl
-    go false = refl
+months-year : (isLeap : Bool) → sum (monthDays isLeap) ≡ cond isLeap 366 365
+months-year true = refl
+months-year false = refl
 
 -- The table's days are below those of the 400 years, by one test of all its entries
 new-year-below : (i : ℕ) → i < 400 → getD newYears i 0 < 146_097
@@ -110,16 +107,16 @@ year-within i h =
 pub record Real (y : Year) (month day : ℕ) : Type 0 where
   pub low : 2000 ≤ y
   pub high : y ≤ 2399
-  pub in-month : day < getD (monthDays y) month 0
+  pub in-month : day < getD (monthDays (leap y)) month 0
 
 pub real : (y : Year) (month day : ℕ) → isReal y month day ≡ true → Real y month day
 real y month day e =
-    let r = both (between 2000 2399 y) (ltb day (getD (monthDays y) month 0)) e in
+    let r = both (between 2000 2399 y) (ltb day (getD (monthDays (leap y)) month 0)) e in
     let b = both (leb 2000 y) (leb y 2399) (r .0) in
     record {
       low = leb-true 2000 y (b .0);
       high = leb-true y 2399 (b .1);
-      in-month = ltb-true day (getD (monthDays y) month 0) (r .1);
+      in-month = ltb-true day (getD (monthDays (leap y)) month 0) (r .1);
     }
 
 -- Its month is one of twelve
@@ -129,14 +126,14 @@ month-below y month day r = go (ltb month 12) refl
     go : (b : Bool) → ltb month 12 ≡ b → month < 12
     go true e = ltb-true month 12 e
     go false e =
-        let past : getD (monthDays y) month 0 ≡ 0 = List·getD-eq-default (monthDays y) 0 (ltb-false month 12 e) in
+        let past : getD (monthDays (leap y)) month 0 ≡ 0 = List·getD-eq-default (monthDays (leap y)) 0 (ltb-false month 12 e) in
         absurd (not-suc-le-zero (rw past at (r .in-month)))
 
 -- Its day is one of the 400 years'
 pub day-in-below : (y : Year) (month day : ℕ) → Real y month day → dayIn y month day < 146_097
 day-in-below y month day r =
-    go (getD newYears (y - 2000) 0) (sum (take month (monthDays y))) (getD (monthDays y) month 0) (yearDays y) (r .in-month)
-    (rw months-year at (sum-part (monthDays y) month))
+    go (getD newYears (y - 2000) 0) (sum (take month (monthDays (leap y)))) (getD (monthDays (leap y)) month 0) (yearDays y) (r .in-month)
+    (rw (months-year (leap y)) at (sum-part (monthDays (leap y)) month))
     (let k : 2000 + (y - 2000) ≡ y = omega arith in rw k at (year-within (y - 2000) (omega arith)))
   where
     go : (new before length days : ℕ) → day < length → before + length ≤ days → new + days ≤ 146_097

@@ -25,17 +25,17 @@ newYearsFrom (suc years) y d = d ∷ newYearsFrom years (suc y) (d + yearDays y)
 abbrev pub newYears : List Day
 newYears = newYearsFrom 400 2000 0
 
--- The days of each month of a year, from January
-abbrev pub monthDays : Year → List Days
-monthDays y = 31 ∷ cond (leap y) 29 28 ∷ 31 ∷ 30 ∷ 31 ∷ 30 ∷ 31 ∷ 31 ∷ 30 ∷ 31 ∷ 30 ∷ 31 ∷ []
+-- The days of each month from January, in a leap year or in a common one
+abbrev pub monthDays : Bool → List Days
+monthDays isLeap = 31 ∷ cond isLeap 29 28 ∷ 31 ∷ 30 ∷ 31 ∷ 30 ∷ 31 ∷ 31 ∷ 30 ∷ 31 ∷ 30 ∷ 31 ∷ []
 
 -- A year of the table, a month from 0 and a day of the month from 0: real, or not
 abbrev pub isReal : Year → ℕ → ℕ → Bool
-isReal y month day = between 2000 2399 y && ltb day (getD (monthDays y) month 0)
+isReal y month day = between 2000 2399 y && ltb day (getD (monthDays (leap y)) month 0)
 
 -- The day of such a date: the year's, with the months before and the days before
 abbrev pub dayIn : Year → ℕ → ℕ → Day
-dayIn y month day = getD newYears (y - 2000) 0 + sum (take month (monthDays y)) + day
+dayIn y month day = getD newYears (y - 2000) 0 + sum (take month (monthDays (leap y))) + day
 
 -- Of a date's eight digits four are the year, two the month and two the day of the month, which count from 1
 abbrev pub dayOf : Date → Option Day

@@ -8,13 +8,13 @@ use mir.Syntax.{w64}
 use lib.ListN.{getD, take}
 use Rattle.paper.specs.Units.{Year, Day}
 use Rattle.paper.specs.Lists.{sum}
-use Rattle.paper.specs.Days.{newYears, monthDays, dayIn}
+use Rattle.paper.specs.Days.{leap, newYears, monthDays, dayIn}
 use Rattle.paper.proofs.Days.{Real, real, month-below, day-in-below}
 use Rattle.days.proofs.day_in.Statement.{statement}
 use Rattle.days.proofs.day_in.Tie as tie
 
 -- The sum as the code makes it is the paper's
-total : (years : List Day) (before : ℕ) (y : Year) (month day : ℕ) → years ≡ newYears → before ≡ sum (take month (monthDays y))
+total : (years : List Day) (before : ℕ) (y : Year) (month day : ℕ) → years ≡ newYears → before ≡ sum (take month (monthDays (leap y)))
     → getD years (y - 2000) 0 + before + day ≡ dayIn y month day
 total years before y month day e b =
     ap (λ (l : List Day). getD l (y - 2000) 0 + before + day) e

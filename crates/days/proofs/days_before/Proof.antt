@@ -8,17 +8,17 @@ use lib.ListN.{take}
 use Rattle.paper.specs.Units.{Year}
 use Rattle.paper.specs.Lists.{sum}
 use Rattle.paper.specs.Days.{leap, monthDays}
-use Rattle.days.proofs.Months.{months, even, before-month}
+use Rattle.days.proofs.Months.{even, before-month}
 use Rattle.days.proofs.days_before.Statement.{statement}
 use Rattle.days.proofs.days_before.Tie as tie
 
 -- From March on, in a year that is leap or not
 since-march : (leap? : Bool) (y : Year) (month : ℕ) → month < 12 → 2 ≤ month → leap y ≡ leap?
-    → cond leap? (even month - 1) (even month - 2) ≡ sum (take month (monthDays y))
+    → cond leap? (even month - 1) (even month - 2) ≡ sum (take month (monthDays (leap y)))
 since-march leap? y month h m e =
     ap (λ (b : Bool). cond b (even month) (cond leap? (even month - 1) (even month - 2))) (sym (le-ltb month 2 m))
     ∙ before-month leap? month h
-    ∙ ap (λ (b : Bool). sum (take month (months b))) (sym e)
+    ∙ ap (λ (b : Bool). sum (take month (monthDays b))) (sym e)
 
 even-before-requires : tie.Need-even-before-requires
 even-before-requires c κs = search needs

@@ -12,11 +12,11 @@ use Rattle.days.proofs.Months.{even, month-length}
 use Rattle.days.proofs.month_days.Statement.{statement}
 use Rattle.days.proofs.month_days.Tie as tie
 
-february : (leap? : Bool) (y : Year) (month : ℕ) → month ≡ 1 → leap y ≡ leap? → cond leap? 29 28 ≡ getD (monthDays y) month 0
+february : (leap? : Bool) (y : Year) (month : ℕ) → month ≡ 1 → leap y ≡ leap? → cond leap? 29 28 ≡ getD (monthDays (leap y)) month 0
 february leap? y month e l = rw e (ap (λ (b : Bool). cond b 29 28) (sym l))
 
 returns : tie.Need-returns
-returns c = sym (List·getD-eq-default (monthDays (c .before .args .y)) 0 (c .if1 .taken))
+returns c = sym (List·getD-eq-default (monthDays (leap (c .before .args .y))) 0 (c .if1 .taken))
 
 is-leap-requires : tie.Need-is-leap-requires
 is-leap-requires c κs = search needs
