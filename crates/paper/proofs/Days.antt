@@ -18,6 +18,7 @@ use Rattle.paper.specs.Days.{leap, yearDays, newYearsFrom, newYears, mon
 
 -- Of three days on end one is open, so `workingAfter` need look no further than the third
 one-of-three : (d : Day) → isOpen d ≡ false → isOpen (suc d) ≡ false → isOpen (suc (suc d)) ≡ true
+unfolding isOpen
 one-of-three d h k = lt-ltb (weekday (suc (suc d))) 5 (omega (arith, ltb-false (weekday d) 5 h, ltb-false (weekday (suc d)) 5 k))
 
 -- The search's steps: it ends at an open day, and passes one that is not
@@ -53,6 +54,7 @@ found (suc left) d = go (isOpen d) refl (found left (suc d))
 
 -- The working day after a day is open
 pub working-open : (d : Day) → isOpen (workingAfter d) ≡ true
+unfolding workingAfter
 working-open d = go (isOpen (suc d)) refl (isOpen (suc (suc d))) refl
   where
     go : (a : Bool) → isOpen (suc d) ≡ a → (b : Bool) → isOpen (suc (suc d)) ≡ b → isOpen (workingAfter d) ≡ true
@@ -62,14 +64,17 @@ working-open d = go (isOpen (suc d)) refl (isOpen (suc (suc d))) refl
 
 -- It is after that day
 pub working-after : (d : Day) → d < workingAfter d
+unfolding workingAfter
 working-after d = found 2 (suc d) .from
 
 -- It is at most three days off
 pub working-within : (d : Day) → workingAfter d ≤ d + 3
+unfolding workingAfter
 working-within d = omega (arith, found 2 (suc d) .within)
 
 -- No day between the two is open
 pub working-earliest : (d x : Day) → d < x → x < workingAfter d → isOpen x ≡ false
+unfolding workingAfter
 working-earliest d x p q = found 2 (suc d) .earliest x p q
 
 -- 1 January 2000 was a Saturday

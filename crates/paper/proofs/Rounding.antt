@@ -12,6 +12,7 @@ use Rattle.paper.specs.Offsetting.{share}
 
 -- What is divided by one or more is not made larger
 pub nearest-below : (product divisor : ℕ) → 0 < divisor → nearest product divisor ≤ product
+unfolding nearest
 nearest-below p d h =
     le-of-suc-le-suc
     (div-lt-iff-lt-mul h .1
@@ -19,6 +20,7 @@ nearest-below p d h =
 
 -- Rounding is monotone
 pub nearest-monotone : (p q divisor : ℕ) → 0 < divisor → p ≤ q → nearest p divisor ≤ nearest q divisor
+unfolding nearest
 nearest-monotone p q d h le =
     le-div-iff-mul-le h .1 (le-trans (div-mul-le-self (p + d / 2) d) (omega arith))
 
@@ -28,12 +30,14 @@ nearest-zero d h = omega (arith, nearest-below 0 d h)
 
 -- Rounding a negative is the negative of rounding its size
 pub rounded-negative : (z : ℤ) (divisor : ℕ) → 0 < divisor → rounded (negℤ z) divisor ≡ negℤ (rounded z divisor)
+unfolding rounded
 rounded-negative (pos zero) d h = subst (λ (n : ℕ). pos n ≡ negℤ (pos n)) (sym (nearest-zero d h)) refl
 rounded-negative (pos (suc n)) d h = refl
 rounded-negative (negsuc n) d h = sym (negℤ-negℤ (pos (nearest (suc n) d)))
 
 -- A share by a factor of at most 10,000 ten-thousandths is not above what it is a share of
 pub share-below : (factor : Factor) (amount : Whole) → factor ≤ 10_000 → share factor amount ≤ amount
+unfolding nearest
 share-below f a h = omega (arith, mul-le-mul-right a h)
 
 -- Of two negatives the larger size is the smaller number
@@ -50,6 +54,7 @@ negative-below (suc m) n = leZ-yes tt
 
 -- Rounding is monotone, signed
 pub rounded-monotone : (a b : ℤ) (divisor : ℕ) → 0 < divisor → a ≤ℤ b → rounded a divisor ≤ℤ rounded b divisor
+unfolding rounded
 rounded-monotone (pos a) (pos b) d h le =
     leZ-yes (le→leb (nearest a d) (nearest b d) (nearest-monotone a b d h (leb→le a b (le .le))))
 rounded-monotone (pos a) (negsuc b) d h le = absurd (le .le)

@@ -5,7 +5,7 @@ use mathlib.Core.List.{List, [], _∷_}
 use mathlib.Core.Option.{Option, Option·getD}
 use lib.Dec.{eqb, leb, ltb}
 use lib.ListN.{getD, take}
-use Rattle.paper.specs.Units.{Date, Year, Day, Days}
+use Rattle.paper.specs.Units.{Date, Year, Month, DayOfMonth, Day, Days}
 use Rattle.paper.specs.Lists.{between, sum, given, when}
 
 -- Leap years: every fourth, but of the centuries every fourth only
@@ -29,21 +29,21 @@ newYears = newYearsFrom 400 2000 0
 abbrev pub monthDays : Bool → List Days
 monthDays isLeap = 31 ∷ cond isLeap 29 28 ∷ 31 ∷ 30 ∷ 31 ∷ 30 ∷ 31 ∷ 31 ∷ 30 ∷ 31 ∷ 30 ∷ 31 ∷ []
 
--- A year of the table, a month from 0 and a day of the month from 0: real, or not
-abbrev pub isReal : Year → ℕ → ℕ → Bool
-isReal y month day = between 2000 2399 y && ltb day (getD (monthDays (leap y)) month 0)
+-- A year of the table, a month and a day of the month: real, or not
+abbrev pub isReal : Year → Month → DayOfMonth → Bool
+isReal y m d = between 2000 2399 y && ltb d (getD (monthDays (leap y)) m 0)
 
 -- The day of such a date: the year's, with the months before and the days before
-abbrev pub dayIn : Year → ℕ → ℕ → Day
-dayIn y month day = getD newYears (y - 2000) 0 + sum (take month (monthDays (leap y))) + day
+abbrev pub dayIn : Year → Month → DayOfMonth → Day
+dayIn y m d = getD newYears (y - 2000) 0 + sum (take m (monthDays (leap y))) + d
 
--- Of a date's eight digits four are the year, two the month and two the day of the month, which count from 1
+-- Of a date's eight digits four are the year, two the month and two the day of the month; the last two count from 1
 abbrev pub dayOf : Date → Option Day
 dayOf date =
     let y = date / 10_000 in
-    let month = date / 100 % 100 in
-    let day = date % 100 in
-    when (leb 1 month && leb 1 day && isReal y (month - 1) (day - 1)) (dayIn y (month - 1) (day - 1))
+    let mm = date / 100 % 100 in
+    let dd = date % 100 in
+    when (leb 1 mm && leb 1 dd && isReal y (mm - 1) (dd - 1)) (dayIn y (mm - 1) (dd - 1))
 
 -- Whether a date is a real day of 2000 to 2399
 abbrev pub isDay : Date → Bool
@@ -58,7 +58,7 @@ abbrev pub weekday : Day → ℕ
 weekday d = (d + 5) % 7
 
 -- Open days: neither Saturday nor Sunday. Another calendar changes this definition, and how far `workingAfter` looks
-abbrev pub isOpen : Day → Bool
+unfoldable pub isOpen : Day → Bool
 isOpen d = ltb (weekday d) 5
 
 -- Stepping on from a day until an open one is found, with so many days left to step
@@ -67,5 +67,5 @@ firstOpen zero d = d
 firstOpen (suc left) d = elim (isOpen d) [ true ↦ d | false ↦ firstOpen left (suc d) ]
 
 -- The first working day after a day: at most three days off
-abbrev pub workingAfter : Day → Day
+unfoldable pub workingAfter : Day → Day
 workingAfter d = firstOpen 2 (suc d)

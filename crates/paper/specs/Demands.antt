@@ -1,4 +1,4 @@
--- The three demands, as types over the definitions. They are stated here and proved of the kit later.
+-- The three demands on any kit, as types over the definitions. They are proved of `Answer.kit` in proofs/Demands.
 use Prim.Native.Nat.{ℕ, _+_, _≤_, _<_}
 use mathlib.Core.Bool.{Bool, _||_}
 use mathlib.Core.List.{List, []}
@@ -12,12 +12,8 @@ use Rattle.paper.specs.Rows.{PriorityRow, Tables}
 use Rattle.paper.specs.Refusals.{isFactor, refused, accepted}
 use Rattle.paper.specs.Offsetting.{Book, position, taken, offsetRow, offsetAll}
 use Rattle.paper.specs.Report.{reportOf}
-use Rattle.paper.specs.Answer.{Answer, answer, numberOf, left}
+use Rattle.paper.specs.Answer.{Answer, answer, numberOf, bufferAfter, Kit}
 use Rattle.paper.specs.Tables.{sheetOf, Admitted}
-
--- A kit: a sheet and a lent buffer to the number that it returns and the buffer as it then is
-abbrev pub Kit : Type 0
-Kit = Text → Text → ℕ × Text
 
 -- A text of bytes: each is 0..255
 abbrev pub IsBytes : Text → Type 0
@@ -25,7 +21,7 @@ IsBytes t = T (every (λ b. ltb b 256) t)
 
 -- A kit gives an answer to a sheet and a buffer: its number, and its bytes in the buffer
 abbrev pub Gives : Kit → Text → Text → Answer → Type 0
-Gives kit sheet buffer a = kit sheet buffer ≡ (numberOf a, left a buffer)
+Gives kit sheet buffer a = kit sheet buffer ≡ (numberOf a, bufferAfter a buffer)
 
 -- What an answer may be: a refusal 1..12 at a line below 65,536, or a report of at most 32,768 bytes
 -- The number returned then tells which of the two it is, and the refusal from its line
@@ -36,9 +32,9 @@ IsAnswer (accepted report) = length report ≤ 32_768
 -- Demand 1. The kit answers every sheet of bytes and ends. A bad sheet is refused by number and line, and a refusal
 -- leaves every byte of the lent report as it was. Callers check nothing first.
 -- First half: some answer, whatever the sheet and the buffer. Second half: the refusal that document 01 gives.
--- Useless kits: one fixed report fails it on every bad sheet, and so does one refusal for all sheets. A kit that refuses
--- the good sheets too, by any number, or gives a length and writes nothing, or goes by the first priority row only, passes
--- here and fails demand 2.
+-- Useless kits: one fixed report fails it on every bad sheet; one refusal for all sheets fails it on every bad sheet that
+-- has another number or line. A kit that is right on bad sheets and refuses the good ones too, or gives a length there and
+-- writes nothing, or goes by the first priority row only, passes here and fails demand 2.
 abbrev pub Demand1 : Kit → Type 0
 Demand1 kit =
     ((sheet buffer : Text) → IsBytes sheet → IsBytes buffer → (a : Answer) × IsAnswer a × Gives kit sheet buffer a)

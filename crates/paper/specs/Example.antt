@@ -1,7 +1,13 @@
 -- The sheet of document 01 in full, and that its answer is the report printed there.
 use mathlib.Core.Path.{_≡_, refl}
 use Rattle.paper.specs.Units.{Text}
-use Rattle.paper.specs.Text.{ascii}
+use Rattle.paper.specs.Rounding.{nearest, rounded}
+use Rattle.paper.specs.Days.{isOpen, workingAfter}
+use Rattle.paper.specs.Text.{ascii, lines, numberIn, dateIn, isCode, digits}
+use Rattle.paper.specs.Valuation.{valuedFrom}
+use Rattle.paper.specs.Sheet.{rowsFrom, readSheet}
+use Rattle.paper.specs.Offsetting.{summed, offsetRow, offsetAll}
+use Rattle.paper.specs.Report.{classLine, currencyLines, reportOf}
 use Rattle.paper.specs.Lists.{joinedUp}
 use mathlib.Core.List.{[], _∷_}
 use Rattle.paper.specs.Answer.{answer, accepted}
@@ -35,4 +41,5 @@ report =
 
 -- The claim
 pub printed : answer 32_768 sheet ≡ accepted report
+unfolding nearest rounded isOpen workingAfter lines numberIn dateIn isCode digits valuedFrom rowsFrom readSheet summed offsetRow offsetAll classLine currencyLines reportOf
 printed = refl

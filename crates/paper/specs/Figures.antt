@@ -7,9 +7,10 @@ use mathlib.Core.Path.{_≡_, refl}
 use lib.IntN.{ℤ, pos, negℤ}
 use lib.ListN.{set}
 use Rattle.paper.specs.Units.{Class, Factor, Duration}
-use Rattle.paper.specs.Days.{day, isDay, workingAfter}
+use Rattle.paper.specs.Rounding.{nearest, rounded}
+use Rattle.paper.specs.Days.{day, isDay, isOpen, workingAfter}
 use Rattle.paper.specs.Rows.{government, ClassRow, PriorityRow}
-use Rattle.paper.specs.Valuation.{accrued, revaluated, interest, net, classOf}
+use Rattle.paper.specs.Valuation.{accrued, revaluated, interest, netOf, classOf}
 use Rattle.paper.specs.Offsetting.{Book, flat, offsetRow, offsetAll}
 
 -- Below zero
@@ -25,8 +26,8 @@ abbrev borders : List ClassRow
 borders = upTo 6 32_500 ∷ upTo 7 47_500 ∷ []
 
 -- A priority row, its factor in ten-thousandths
-abbrev row : Class → Class → Factor → PriorityRow
-row n m factor = record { first = n; second = m; factor = factor }
+abbrev priority : Class → Class → Factor → PriorityRow
+priority n m factor = record { first = n; second = m; factor = factor }
 
 -- Figure 7: class 6 alone, long and short in whole units
 abbrev one : ℕ → ℕ → Book
@@ -44,14 +45,15 @@ Figures =
     × (revaluated 1_000_000 11_101_597 ≡ 111_015_970)  -- 2
     × (interest 10 110_000_000 (minus 4_000) ≡ minus 122)  -- 3
     × (interest 1 18_000_000 (pos 1_000) ≡ pos 1) × (interest 1 18_000_000 (minus 1_000) ≡ minus 1)  -- 4
-    × (net (minus 25 ∷ minus 25 ∷ []) ≡ minus 1) × (net (minus 25 ∷ minus 24 ∷ []) ≡ pos 0)  -- 5
+    × (netOf (minus 25 ∷ minus 25 ∷ []) ≡ minus 1) × (netOf (minus 25 ∷ minus 24 ∷ []) ≡ pos 0)  -- 5
     × (classOf borders government (some 32_500) ≡ some 6) × (classOf borders government (some 32_501) ≡ some 7)  -- 6
-    × (offsetRow (row 6 6 5_000) (one 5 3) ≡ one 3 1)  -- 7
-    × (offsetAll (row 6 6 10_000 ∷ row 6 7 10_000 ∷ []) (two 100 100 100) ≡ two 0 0 100)  -- 8
-    × (offsetAll (row 6 7 10_000 ∷ row 6 6 10_000 ∷ []) (two 100 100 100) ≡ two 0 100 0)
+    × (offsetRow (priority 6 6 5_000) (one 5 3) ≡ one 3 1)  -- 7
+    × (offsetAll (priority 6 6 10_000 ∷ priority 6 7 10_000 ∷ []) (two 100 100 100) ≡ two 0 0 100)  -- 8
+    × (offsetAll (priority 6 7 10_000 ∷ priority 6 6 10_000 ∷ []) (two 100 100 100) ≡ two 0 100 0)
     × (workingAfter (day 20_190_614) ≡ day 20_190_617)  -- 9
     × (isDay 20_000_229 ≡ true) × (isDay 21_000_229 ≡ false)
 
 -- The claim
 pub figures : Figures
+unfolding nearest rounded isOpen workingAfter offsetRow offsetAll
 figures = (refl, refl, refl, refl, refl, refl, refl, refl, refl, refl, refl, refl, refl, refl, refl)

@@ -1,9 +1,11 @@
 pub mod Units
 pub mod Lists
+pub mod Signs
 pub mod Rounding
 pub mod Days
 pub mod Text
 pub mod Rows
+pub mod Currencies
 pub mod Valuation
 pub mod Refusals
 pub mod Sheet

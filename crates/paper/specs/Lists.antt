@@ -4,7 +4,6 @@ use mathlib.Core.Bool.{Bool, true, false, _&&_}
 use mathlib.Core.List.{List, [], _∷_, _++_}
 use mathlib.Core.Option.{Option, none, some}
 use lib.Dec.{leb}
-use lib.IntN.{ℤ, pos, _+ℤ_}
 
 -- From a lowest to a highest, both counted (one unit for the three)
 abbrev pub between : ℕ → ℕ → ℕ → Bool
@@ -14,11 +13,6 @@ between lowest highest n = leb lowest n && leb n highest
 abbrev pub sum : List ℕ → ℕ
 sum [] = 0
 sum (n ∷ ns) = n + sum ns
-
--- A sum of signed numbers, of one unit
-abbrev pub signedSum : List ℤ → ℤ
-signedSum [] = pos 0
-signedSum (z ∷ zs) = z +ℤ signedSum zs
 
 -- Lists one behind the other
 abbrev pub joinedUp : {A : Type 0} → List (List A) → List A
@@ -39,6 +33,11 @@ only test (a ∷ rest) = elim (test a) [ true ↦ a ∷ only test rest | false �
 abbrev pub firstThat : {A : Type 0} → (A → Bool) → List A → Option A
 firstThat test [] = none
 firstThat test (a ∷ rest) = elim (test a) [ true ↦ some a | false ↦ firstThat test rest ]
+
+-- One step after another, each from what the one before left
+abbrev pub inTurn : {A S : Type 0} → (A → S → S) → List A → S → S
+inTurn step [] s = s
+inTurn step (a ∷ rest) s = inTurn step rest (step a s)
 
 -- Whether something is there
 abbrev pub given : {A : Type 0} → Option A → Bool

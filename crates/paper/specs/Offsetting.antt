@@ -1,15 +1,17 @@
 -- Offsetting and margins (01, "Offsetting" and "Class margin"; 000 III and IV, 001 articles 3.2 and 3.3).
-use Prim.Native.Nat.{ℕ, zero, suc, _+_, _-_, _*_, min, max}
+use Prim.Native.Nat.{zero, suc, _+_, _-_, _*_, min, max}
 use mathlib.Core.Bool.{true, false}
 use mathlib.Core.List.{List, [], _∷_}
 use mathlib.Core.Option.{Option·getD}
 use lib.Dec.{eqb}
-use lib.IntN.{ℤ, pos, negsuc, _-ℤ_}
+use lib.IntN.{pos, _-ℤ_}
 use lib.ListN.{getD, set}
 use Rattle.paper.specs.Units.{Class, Currency, Factor, Cents, SignedCents, Whole, SignedWhole}
+use Rattle.paper.specs.Lists.{inTurn}
 use Rattle.paper.specs.Rounding.{nearest}
+use Rattle.paper.specs.Signs.{aboveZero, belowZero}
 use Rattle.paper.specs.Rows.{ClassRow, PriorityRow, SecurityRow}
-use Rattle.paper.specs.Valuation.{Valued, worthsIn, net, classOf}
+use Rattle.paper.specs.Valuation.{Valued, signedWorthsIn, netOf, classOf}
 
 -- The positions of all classes in one currency, whole units: the list has each class's at the place of its number
 pub record Book : Type 0 where
@@ -20,46 +22,36 @@ pub record Book : Type 0 where
 abbrev pub position : List Whole → Class → Whole
 position ps n = getD ps n 0
 
--- A security's currency, class and net, in whole units
-pub record Position : Type 0 where
+-- A security's currency and class, and its net in whole units
+pub record Netted : Type 0 where
   pub currency : Currency
   pub class : Class
   pub net : SignedWhole
 
--- The position in a security, from the margined trades
-abbrev pub positionIn : List ClassRow → List Valued → SecurityRow → Position
-positionIn cs vs s =
+-- The net of a security, from the margined trades
+abbrev pub nettedIn : List ClassRow → List Valued → SecurityRow → Netted
+nettedIn cs vs s =
     record {
       currency = s .currency;
       class = Option·getD (classOf cs (s .kind) (s .duration)) 0;
-      net = net (worthsIn (s .code) vs);
+      net = netOf (signedWorthsIn (s .code) vs);
     }
-
--- A signed amount where it is above zero, and else 0: the long side of a net
-abbrev pub aboveZero : ℤ → ℕ
-aboveZero (pos n) = n
-aboveZero (negsuc n) = 0
-
--- A signed amount taken positive where it is below zero, and else 0: the short side of a net
-abbrev pub belowZero : ℤ → ℕ
-belowZero (pos n) = 0
-belowZero (negsuc n) = suc n
 
 -- No position, for the classes up to a number
 abbrev pub flat : Class → List Whole
 flat zero = 0 ∷ []
 flat (suc n) = 0 ∷ flat n
 
--- One side of the positions, summed by class, whole units
-abbrev pub summed : (SignedWhole → Whole) → List Position → List Whole
+-- One side of the nets, summed by class, whole units
+unfoldable pub summed : (SignedWhole → Whole) → List Netted → List Whole
 summed side [] = flat 40
-summed side (p ∷ ps) =
-    let rest = summed side ps in
-    set rest (p .class) (position rest (p .class) + side (p .net))
+summed side (n ∷ ns) =
+    let ps = summed side ns in
+    set ps (n .class) (position ps (n .class) + side (n .net))
 
--- Long and short of each class (01, "Offsetting"), from the positions of one currency
-abbrev pub opening : List Position → Book
-opening ps = record { long = summed aboveZero ps; short = summed belowZero ps }
+-- Long and short of each class (01, "Offsetting"), from the nets of one currency: those above zero, and those below
+abbrev pub opening : List Netted → Book
+opening ns = record { long = summed aboveZero ns; short = summed belowZero ns }
 
 -- A factor's share of an amount: ten-thousandths × whole units / 10,000
 abbrev pub share : Factor → Whole → Whole
@@ -80,7 +72,7 @@ offset factor n m b =
     record { long = less n amount (b .long); short = less m amount (b .short) }
 
 -- A row: one class against itself, or the long of each class against the short of the other
-abbrev pub offsetRow : PriorityRow → Book → Book
+unfoldable pub offsetRow : PriorityRow → Book → Book
 offsetRow o b =
     elim (eqb (o .first) (o .second)) [
       | true ↦ offset (o .factor) (o .first) (o .first) b
@@ -88,9 +80,8 @@ offsetRow o b =
     ]
 
 -- All rows in their order, each from what the one before left
-abbrev pub offsetAll : List PriorityRow → Book → Book
-offsetAll [] b = b
-offsetAll (o ∷ os) b = offsetAll os (offsetRow o b)
+unfoldable pub offsetAll : List PriorityRow → Book → Book
+offsetAll os b = inTurn offsetRow os b
 
 -- Class margin (01): deposit factor × larger remaining side / 10,000, whole units
 abbrev pub margin : Factor → Whole → Whole → Whole

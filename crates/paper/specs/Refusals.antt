@@ -1,5 +1,7 @@
--- Refusals (01, "Report and refusal numbers"): for each row kind its rules in rising number; the first that fails is given.
--- A rule is a number and its test. `above` are the rows of the section above the row, the nearest first.
+-- Refusals (01, "Report and refusal numbers"), 6 to 12 (1 and 2 stand in Answer, 3 to 5 in Sheet, and the forms of
+-- numbers and letters, which are 6 too, in Rows): for each row kind its rules in rising number; the first that fails is
+-- given. A rule is a number and a test. The test says what must hold; document 01's table says what is then wrong.
+-- `above` are the rows of the section above the row, the nearest first.
 use Prim.Native.Nat.{_-_}
 use mathlib.Core.Bool.{Bool, true, false, not, _&&_, _||_}
 use mathlib.Core.List.{List, [], _∷_}
@@ -7,11 +9,12 @@ use mathlib.Core.Option.{Option, none, some}
 use lib.Dec.{eqb, leb, ltb}
 use lib.IntN.{natAbs}
 use lib.ListN.{length, take}
-use Rattle.paper.specs.Units.{Number, Line, Date, Day, Days, Class, Currency, Duration, Factor, Rate}
+use Rattle.paper.specs.Units.{Number, Line, Date, Day, Days, Class, Duration, Factor, Rate}
 use Rattle.paper.specs.Days.{isDay, day}
 use Rattle.paper.specs.Lists.{between, every, firstThat, given}
-use Rattle.paper.specs.Text.{same, before, isCode, isCurrency}
+use Rattle.paper.specs.Text.{before, isCode, isCurrency}
 use Rattle.paper.specs.Rows.{Kind, government, corporate, inflation, floating, Trade, repo, cash, ClassRow, PriorityRow, SecurityRow, TradeRow, sameKind}
+use Rattle.paper.specs.Currencies.{currencies, hasCurrency}
 use Rattle.paper.specs.Valuation.{margined, accrualDay, securityOf, lower, classOf}
 
 -- What reading gives: a refusal with its line, or what was read
@@ -81,19 +84,6 @@ priorityRules cs above o =
     ∷ (10, hasClass cs (o .first) && hasClass cs (o .second))
     ∷ []
 
--- A currency put into its place among rising ones, where it is new
-abbrev pub placed : Currency → List Currency → List Currency
-placed c [] = c ∷ []
-placed c (d ∷ ds) = elim (same c d) [
-  | true ↦ d ∷ ds
-  | false ↦ elim (before c d) [ true ↦ c ∷ d ∷ ds | false ↦ d ∷ placed c ds ]
-]
-
--- The currencies of S rows, rising by bytes
-abbrev pub currencies : List SecurityRow → List Currency
-currencies [] = []
-currencies (s ∷ ss) = placed (s .currency) (currencies ss)
-
 -- The fields of an S row that are no dates
 abbrev pub securityFields : SecurityRow → Bool
 securityFields s =
@@ -104,12 +94,13 @@ securityFields s =
     && leb (s .coupon) 2_000_000
     && (eqb (s .payments) 1 || eqb (s .payments) 2 || eqb (s .payments) 4)
 
--- S rows: 6 fields; 7 next coupon 1 to 400 days after the previous; 8 at most 200, 8 currencies; 9 codes rise; 11 a class
+-- S rows: 6 fields; 7 next coupon 1 to 400 days after the previous; 8 at most 200, and the currency stands above or is
+-- one of the first 8; 9 codes rise; 11 a class
 abbrev pub securityRules : List ClassRow → List SecurityRow → SecurityRow → List Rule
 securityRules cs above s =
     (6, securityFields s)
     ∷ (7, follows 400 (s .previous) (s .next))
-    ∷ (8, ltb (length above) 200 && leb (length (currencies (s ∷ above))) 8)
+    ∷ (8, ltb (length above) 200 && (hasCurrency above (s .currency) || ltb (length (currencies above)) 8))
     ∷ (9, every (λ a. before (a .code) (s .code)) (take 1 above))
     ∷ (11, given (classOf cs (s .kind) (s .duration)))
     ∷ []

@@ -4,10 +4,10 @@ use Prim.Native.Nat.{ℕ, suc, _+_, _/_}
 use lib.IntN.{ℤ, pos, negsuc, negℤ}
 
 -- Rounded, not below zero: half the divisor is added, then divided
-abbrev pub nearest : ℕ → ℕ → ℕ
+unfoldable pub nearest : ℕ → ℕ → ℕ
 nearest product divisor = (product + divisor / 2) / divisor
 
 -- Rounded, signed: the size is rounded and its sign put back
-abbrev pub rounded : ℤ → ℕ → ℤ
+unfoldable pub rounded : ℤ → ℕ → ℤ
 rounded (pos product) divisor = pos (nearest product divisor)
 rounded (negsuc less) divisor = negℤ (pos (nearest (suc less) divisor))

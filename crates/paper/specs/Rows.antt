@@ -1,5 +1,6 @@
 -- Rows (01, "The sheet"): the tables of a sheet, and how a row's fields are read and written.
--- Reading asks only for the form of a field, and of a date for nothing; all else is left to the rules of Refusals.
+-- Reading asks only for the form of a number and for a known letter; a code, a currency and a date are read as they
+-- stand. All else, the form of those three too, is left to the rules of Refusals.
 use Prim.Native.Nat.{ℕ}
 use mathlib.Core.Bool.{Bool}
 use mathlib.Core.List.{List, [], _∷_}
@@ -7,7 +8,7 @@ use mathlib.Core.Option.{Option, some}
 use lib.ListN.{getD}
 use Rattle.paper.specs.Units.{Text, Fields, Date, Class, Code, Currency, Nominal, Quote, Payments, Duration, Factor, Rate, Cents}
 use Rattle.paper.specs.Lists.{firstThat, _>>=_}
-use Rattle.paper.specs.Text.{ascii, same, number, signed, dateIn, orBlank, blankOr, digits, signedDigits}
+use Rattle.paper.specs.Text.{ascii, same, numberIn, signedIn, dateIn, orBlank, blankOr, digits, signedDigits}
 
 -- Kinds of bond: G government, C corporate, I inflation linked, F floating
 pub data Kind : Type 0 where
@@ -117,10 +118,10 @@ writeDate d = ascii "D" ∷ digits d ∷ []
 -- C rows, read: class; kind; border; deposit factor
 abbrev pub readClass : Fields → Option ClassRow
 readClass fs = do
-  class ← number (field 1 fs)
+  class ← numberIn (field 1 fs)
   kind ← kindIn (field 2 fs)
-  border ← orBlank number (field 3 fs)
-  deposit ← number (field 4 fs)
+  border ← orBlank numberIn (field 3 fs)
+  deposit ← numberIn (field 4 fs)
   some (record { class = class; kind = kind; border = border; deposit = deposit })
 
 -- C rows, written
@@ -131,9 +132,9 @@ writeClass c =
 -- O rows, read: class; class; factor
 abbrev pub readPriority : Fields → Option PriorityRow
 readPriority fs = do
-  first ← number (field 1 fs)
-  second ← number (field 2 fs)
-  factor ← number (field 3 fs)
+  first ← numberIn (field 1 fs)
+  second ← numberIn (field 2 fs)
+  factor ← numberIn (field 3 fs)
   some (record { first = first; second = second; factor = factor })
 
 -- O rows, written
@@ -144,10 +145,10 @@ writePriority o = ascii "O" ∷ digits (o .first) ∷ digits (o .second) ∷ dig
 abbrev pub readSecurity : Fields → Option SecurityRow
 readSecurity fs = do
   kind ← kindIn (field 3 fs)
-  duration ← orBlank number (field 4 fs)
-  price ← number (field 5 fs)
-  coupon ← number (field 6 fs)
-  payments ← number (field 7 fs)
+  duration ← orBlank numberIn (field 4 fs)
+  price ← numberIn (field 5 fs)
+  coupon ← numberIn (field 6 fs)
+  payments ← numberIn (field 7 fs)
   some (record { code = field 1 fs; currency = field 2 fs; kind = kind; duration = duration; price = price; coupon = coupon; payments = payments; previous = dateIn (field 8 fs); next = dateIn (field 9 fs) })
 
 -- S rows, written
@@ -161,10 +162,10 @@ abbrev pub readTrade : Fields → Option TradeRow
 readTrade fs = do
   trade ← tradeIn (field 1 fs)
   side ← sideIn (field 2 fs)
-  nominal ← number (field 4 fs)
-  amount ← number (field 5 fs)
+  nominal ← numberIn (field 4 fs)
+  amount ← numberIn (field 5 fs)
   last ← orBlank (λ t. some (dateIn t)) (field 7 fs)
-  rate ← orBlank signed (field 8 fs)
+  rate ← orBlank signedIn (field 8 fs)
   some (record { trade = trade; side = side; code = field 3 fs; nominal = nominal; amount = amount; first = dateIn (field 6 fs); last = last; rate = rate })
 
 -- T rows, written

@@ -1,5 +1,5 @@
--- A sheet, read (01, "The sheet", and the order of refusals): header, D row, then the sections C, O, S and T.
--- The earliest line that fails is refused, by its smallest number.
+-- A sheet, read (01, "The sheet", and the order of refusals): header, D row, then the sections C, O, S and T; and with
+-- it the refusals 3 to 5. The earliest line that fails is refused, by its smallest number.
 use Prim.Native.Nat.{ℕ, suc}
 use mathlib.Core.Bool.{Bool, true, false, _&&_}
 use mathlib.Core.List.{List, [], _∷_, reverse, tail}
@@ -12,15 +12,17 @@ use Rattle.paper.specs.Text.{ascii, lines, same}
 use Rattle.paper.specs.Rows.{Tables, field, readDate, readClass, readPriority, readSecurity, readTrade}
 use Rattle.paper.specs.Refusals.{Outcome, refused, accepted, _>>=_, Rule, judged, dateRules, classRules, priorityRules, securityRules, tradeRules}
 
--- The lines that are left, with the number of the first
-abbrev pub Left : Type 0
-Left = Line × List Fields
+-- The lines that are not read yet, with the number of the first
+abbrev pub Rest : Type 0
+Rest = Line × List Fields
 
 -- Header: 3 the sheet begins `BRM;`; 4 line 1 goes on with `1` and LF
-abbrev pub header : Text → Outcome Left
-header sheet =
-    judged 1 (2, lines (drop 6 sheet))
-    ((3, same (ascii "BRM;") (take 4 sheet)) ∷ (4, same (ascii "1\n") (take 2 (drop 4 sheet))) ∷ [])
+abbrev pub headerRules : Text → List Rule
+headerRules sheet = (3, same (ascii "BRM;") (take 4 sheet)) ∷ (4, same (ascii "1\n") (take 2 (drop 4 sheet))) ∷ []
+
+-- The header read: the lines behind it
+abbrev pub header : Text → Outcome Rest
+header sheet = judged 1 (2, lines (drop 6 sheet)) (headerRules sheet)
 
 -- Whether a line has this letter
 abbrev pub begins : Text → Fields → Bool
@@ -35,34 +37,38 @@ row letter many read rules at fs =
     ]
 
 -- Rows from a line on, each judged by those above it, down to the first line with another letter
-abbrev pub rowsFrom : {R : Type 0} → Text → (List R → Line → Fields → Outcome R) → List R → Line → List Fields → Outcome (List R × Left)
+unfoldable pub rowsFrom : {R : Type 0} → Text → (List R → Line → Fields → Outcome R) → List R → Line → List Fields → Outcome (List R × Rest)
 rowsFrom letter judge above at [] = accepted (reverse above, (at, []))
-rowsFrom letter judge above at (fs ∷ rest) =
+rowsFrom letter judge above at (fs ∷ more) =
     elim (begins letter fs) [
-      | false ↦ accepted (reverse above, (at, fs ∷ rest))
+      | false ↦ accepted (reverse above, (at, fs ∷ more))
       | true ↦ elim (judge above at fs) [
         | refused number line ↦ refused number line
-        | accepted r ↦ rowsFrom letter judge (r ∷ above) (suc at) rest
+        | accepted r ↦ rowsFrom letter judge (r ∷ above) (suc at) more
       ]
     ]
 
 -- A section: the rows of a letter, each of so many fields, with how they are read and their rules
-abbrev pub section : {R : Type 0} → Text → ℕ → (Fields → Option R) → (List R → R → List Rule) → Left → Outcome (List R × Left)
-section letter many read rules left =
-    rowsFrom letter (λ above. row letter many read (rules above)) [] (left .0) (left .1)
+abbrev pub section : {R : Type 0} → Text → ℕ → (Fields → Option R) → (List R → R → List Rule) → Rest → Outcome (List R × Rest)
+section letter many read rules rest =
+    rowsFrom letter (λ above. row letter many read (rules above)) [] (rest .0) (rest .1)
 
--- The D row is the first line that is left; where none is left it is missing, and refused as a line with no fields
-abbrev pub dateRow : Left → Outcome (Date × Left)
-dateRow left =
-    row (ascii "D") 2 readDate dateRules (left .0) (getD (left .1) 0 [])
-    >>= λ date. accepted (date, (suc (left .0), tail (left .1)))
+-- The D row is the first line not read yet; where there is none it is missing, and refused as a line with no fields
+abbrev pub dateRow : Rest → Outcome (Date × Rest)
+dateRow rest =
+    row (ascii "D") 2 readDate dateRules (rest .0) (getD (rest .1) 0 [])
+    >>= λ date. accepted (date, (suc (rest .0), tail (rest .1)))
 
--- 5 no line is left: one would have an unknown letter, be out of its section or lack its LF
-abbrev pub ended : {A : Type 0} → A → Left → Outcome A
-ended a left = judged (left .0) a ((5, eqb (length (left .1)) 0) ∷ [])
+-- 5 no line remains: one would have an unknown letter, be out of its section or lack its LF
+abbrev pub endRules : Rest → List Rule
+endRules rest = (5, eqb (length (rest .1)) 0) ∷ []
+
+-- The end of the sheet, behind what was read
+abbrev pub ended : {A : Type 0} → A → Rest → Outcome A
+ended a rest = judged (rest .0) a (endRules rest)
 
 -- The tables of a sheet, or its refusal
-abbrev pub readSheet : Text → Outcome Tables
+unfoldable pub readSheet : Text → Outcome Tables
 readSheet sheet = do
   rows ← header sheet
   (date, rows) ← dateRow rows

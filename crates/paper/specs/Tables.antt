@@ -5,7 +5,7 @@ use mathlib.Core.List.{List, [], _∷_, _++_, map}
 use lib.Dec.{T}
 use Rattle.paper.specs.Units.{Text, Fields}
 use Rattle.paper.specs.Days.{day}
-use Rattle.paper.specs.Text.{ascii, line}
+use Rattle.paper.specs.Text.{ascii, lineOf}
 use Rattle.paper.specs.Lists.{joinedUp}
 use Rattle.paper.specs.Rows.{Tables, writeDate, writeClass, writePriority, writeSecurity, writeTrade}
 use Rattle.paper.specs.Refusals.{Rule, dateRules, classRules, priorityRules, securityRules, tradeRules}
@@ -18,8 +18,8 @@ rowsOf t =
     ++ (map writePriority (t .priorities) ++ (map writeSecurity (t .securities) ++ map writeTrade (t .trades))))
 
 -- Tables written as a sheet
-abbrev pub sheetOf : Tables → Text
-sheetOf t = ascii "BRM;1\n" ++ joinedUp (map line (rowsOf t))
+unfoldable pub sheetOf : Tables → Text
+sheetOf t = ascii "BRM;1\n" ++ joinedUp (map lineOf (rowsOf t))
 
 -- Whether every rule holds
 abbrev pub hold : List Rule → Bool

@@ -1,12 +1,12 @@
 -- Text (01, "The sheet"): lines, fields, and the forms of a field. Letters are held as their bytes.
-use Prim.Native.Nat.{ℕ, zero, suc, _+_, _-_, _*_, _/_, _%_, compare, Ordering·lt, Ordering·eq, Ordering·gt}
+use Prim.Native.Nat.{ℕ, zero, suc, _+_, _-_, _*_, _/_, _%_}
 use Prim.Native.String as S
 use Prim.Native.String.{String}
 use Prim.Native.Char.{code}
 use mathlib.Core.Bool.{Bool, true, false, cond, _&&_, _||_}
 use mathlib.Core.List.{List, [], _∷_, _++_}
 use mathlib.Core.Option.{Option, none, some, Option·map}
-use lib.Dec.{eqb, ltb}
+use lib.Dec.{eqb, leb, ltb}
 use lib.IntN.{ℤ, pos, negsuc}
 use lib.ListN.{length, take, drop}
 use Rattle.paper.specs.Units.{Byte, Text, Fields, Date}
@@ -52,14 +52,18 @@ linesOf (p ∷ []) = unended p
 linesOf (p ∷ q ∷ ps) = pieces semicolon p ∷ linesOf (q ∷ ps)
 
 -- The lines of a text, each as its fields
-abbrev pub lines : Text → List Fields
+unfoldable pub lines : Text → List Fields
 lines t = linesOf (pieces LF t)
 
+-- Pieces put together again, with a mark between each two
+abbrev pub parted : Byte → List Text → Text
+parted mark [] = []
+parted mark (p ∷ []) = p
+parted mark (p ∷ q ∷ ps) = p ++ (mark ∷ parted mark (q ∷ ps))
+
 -- A line as it is written: fields parted by `;`, and LF
-abbrev pub line : Fields → Text
-line [] = LF ∷ []
-line (f ∷ []) = f ++ (LF ∷ [])
-line (f ∷ g ∷ fs) = f ++ (semicolon ∷ line (g ∷ fs))
+abbrev pub lineOf : Fields → Text
+lineOf fs = parted semicolon fs ++ (LF ∷ [])
 
 -- Whether two texts are the same bytes
 abbrev pub same : Text → Text → Bool
@@ -68,12 +72,12 @@ same [] (c ∷ t) = false
 same (b ∷ s) [] = false
 same (b ∷ s) (c ∷ t) = elim (eqb b c) [ true ↦ same s t | false ↦ false ]
 
--- Whether a text comes before another, by bytes
+-- Whether a text comes before another, by bytes: the first two that differ decide
 abbrev pub before : Text → Text → Bool
 before [] [] = false
 before [] (c ∷ t) = true
 before (b ∷ s) [] = false
-before (b ∷ s) (c ∷ t) = elim (compare b c) [ Ordering·lt ↦ true | Ordering·eq ↦ before s t | Ordering·gt ↦ false ]
+before (b ∷ s) (c ∷ t) = elim (eqb b c) [ true ↦ before s t | false ↦ ltb b c ]
 
 -- 0 to 9
 abbrev pub isDigit : Byte → Bool
@@ -88,11 +92,15 @@ abbrev pub decimal : ℕ → Text → ℕ
 decimal n [] = n
 decimal n (b ∷ bs) = decimal (10 * n + (b - 48)) bs
 
--- A number: decimal digits with no leading zero; `0` itself is allowed
-abbrev pub number : Text → Option ℕ
-number [] = none
-number (b ∷ []) = when (isDigit b) (b - 48)
-number (b ∷ c ∷ bs) = when (between 49 57 b && every isDigit (c ∷ bs)) (decimal 0 (b ∷ c ∷ bs))
+-- Decimal digits with no leading zero; `0` itself is allowed
+abbrev pub isNumber : Text → Bool
+isNumber [] = false
+isNumber (b ∷ []) = isDigit b
+isNumber (b ∷ c ∷ bs) = between 49 57 b && every isDigit (c ∷ bs)
+
+-- A number: one of more than 19 digits is out of every range, and 19 fit 64 bits
+unfoldable pub numberIn : Text → Option ℕ
+numberIn t = when (leb (length t) 19 && isNumber t) (decimal 0 t)
 
 -- Below zero, by the size; `-0` is no number
 abbrev pub below : ℕ → Option ℤ
@@ -100,16 +108,16 @@ below zero = none
 below (suc n) = some (negsuc n)
 
 -- A number that may have `-` before it, as the rate
-abbrev pub signed : Text → Option ℤ
-signed [] = none
-signed (b ∷ bs) = cond (eqb b hyphen) (number bs >>= below) (Option·map pos (number (b ∷ bs)))
+abbrev pub signedIn : Text → Option ℤ
+signedIn [] = none
+signedIn (b ∷ bs) = elim (eqb b hyphen) [ true ↦ numberIn bs >>= below | false ↦ Option·map pos (numberIn (b ∷ bs)) ]
 
 -- A date's eight digits as one number; 0, which is no day, for anything else
-abbrev pub dateIn : Text → Date
+unfoldable pub dateIn : Text → Date
 dateIn t = cond (eqb (length t) 8 && every isDigit t) (decimal 0 t) 0
 
 -- A code: two letters, nine letters or digits, one digit
-abbrev pub isCode : Text → Bool
+unfoldable pub isCode : Text → Bool
 isCode t =
     eqb (length t) 12
     && every isLetter (take 2 t)
@@ -137,7 +145,7 @@ digitsBefore (suc most) n t =
     elim (ltb n 10) [ true ↦ (48 + n) ∷ t | false ↦ digitsBefore most (n / 10) ((48 + n % 10) ∷ t) ]
 
 -- A number as it is written
-abbrev pub digits : ℕ → Text
+unfoldable pub digits : ℕ → Text
 digits n = digitsBefore (suc n) n []
 
 -- A signed number as it is written: with `-` before it where it is below zero

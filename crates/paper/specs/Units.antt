@@ -36,6 +36,14 @@ Date = ℕ
 abbrev pub Year : Type 0
 Year = ℕ
 
+-- A month of a year, from 0 for January to 11
+abbrev pub Month : Type 0
+Month = ℕ
+
+-- A day of a month, from 0 for the first
+abbrev pub DayOfMonth : Type 0
+DayOfMonth = ℕ
+
 -- A day, as the days from 1 January 2000 to it
 abbrev pub Day : Type 0
 Day = ℕ
@@ -79,6 +87,10 @@ Factor = ℕ
 -- Repo rate: ten-thousandths of a percent, signed
 abbrev pub Rate : Type 0
 Rate = ℤ
+
+-- The sign of a trade: +1 for who is to receive the bond, -1 for who is to deliver it
+abbrev pub Sign : Type 0
+Sign = ℤ
 
 -- Traded amount, revaluated amount and total: cents
 abbrev pub Cents : Type 0

@@ -6,10 +6,11 @@ use mathlib.Core.Option.{Option, none, some, Option·getD, Option·map}
 use lib.Dec.{leb, ltb}
 use lib.IntN.{ℤ, pos, negsuc, _-ℤ_, _*ℤ_}
 use lib.ListN.{length}
-use Rattle.paper.specs.Units.{Line, Day, Days, Class, Code, Nominal, Quote, Payments, Duration, Rate, Cents, SignedCents, SignedWhole}
+use Rattle.paper.specs.Units.{Line, Day, Days, Class, Code, Nominal, Quote, Payments, Duration, Rate, Sign, Cents, SignedCents, SignedWhole}
 use Rattle.paper.specs.Rounding.{nearest, rounded}
 use Rattle.paper.specs.Days.{day, workingAfter}
-use Rattle.paper.specs.Lists.{only, firstThat, signedSum}
+use Rattle.paper.specs.Lists.{only, firstThat}
+use Rattle.paper.specs.Signs.{signedSum}
 use Rattle.paper.specs.Text.{same}
 use Rattle.paper.specs.Rows.{Kind, Trade, repo, cash, Side, seller, purchaser, ClassRow, SecurityRow, TradeRow, Tables, sameKind}
 
@@ -52,36 +53,36 @@ interestOf today t =
     ]
 
 -- Sign (01; 002 note 2, 001 notes 1 and 2): +1 for who is to receive the bond, -1 for who is to deliver it
-abbrev pub sign : Trade → Side → ℤ
-sign cash purchaser = pos 1
-sign cash seller = negsuc 0
-sign repo seller = pos 1
-sign repo purchaser = negsuc 0
+abbrev pub signOf : Trade → Side → Sign
+signOf cash purchaser = pos 1
+signOf cash seller = negsuc 0
+signOf repo seller = pos 1
+signOf repo purchaser = negsuc 0
 
 -- Mark-to-market (01): (revaluated - amount - 100 × interest) × sign, in cents
-abbrev pub markToMarket : Cents → Cents → SignedWhole → ℤ → SignedCents
-markToMarket worth amount due side = (pos worth -ℤ pos amount -ℤ pos 100 *ℤ due) *ℤ side
+abbrev pub markToMarket : Cents → Cents → SignedWhole → Sign → SignedCents
+markToMarket worth amount due sign = (pos worth -ℤ pos amount -ℤ pos 100 *ℤ due) *ℤ sign
 
 -- The S row of a code
 abbrev pub securityOf : List SecurityRow → Code → Option SecurityRow
 securityOf ss c = firstThat (λ s. same (s .code) c) ss
 
--- A margined trade with its figures: worth is the revaluated amount × sign, worth and mark in cents
+-- A margined trade with its figures: the revaluated amount × sign, and the mark-to-market, both in cents
 pub record Valued : Type 0 where
   pub line : Line
   pub security : SecurityRow
-  pub worth : SignedCents
+  pub signedWorth : SignedCents
   pub mark : SignedCents
 
 -- The figures of a trade in a security, on a calculation day, at a line of the sheet
 abbrev pub valued : Day → Line → TradeRow → SecurityRow → Valued
 valued today at t s =
     let worth = revaluated (t .nominal) (s .price + accruedOn s (accrualDay today t)) in
-    let side = sign (t .trade) (t .side) in
-    record { line = at; security = s; worth = pos worth *ℤ side; mark = markToMarket worth (t .amount) (interestOf today t) side }
+    let sign = signOf (t .trade) (t .side) in
+    record { line = at; security = s; signedWorth = pos worth *ℤ sign; mark = markToMarket worth (t .amount) (interestOf today t) sign }
 
 -- The margined trades of a table that begins at a line, in sheet order
-abbrev pub valuedFrom : Day → List SecurityRow → Line → List TradeRow → List Valued
+unfoldable pub valuedFrom : Day → List SecurityRow → Line → List TradeRow → List Valued
 valuedFrom today ss at [] = []
 valuedFrom today ss at (t ∷ ts) =
     let rest = valuedFrom today ss (suc at) ts in
@@ -97,13 +98,13 @@ valuedIn t =
     (3 + length (t .classes) + length (t .priorities) + length (t .securities))
     (t .trades)
 
--- What each margined trade in a security is worth, in cents
-abbrev pub worthsIn : Code → List Valued → List SignedCents
-worthsIn c vs = map (λ v. v .worth) (only (λ v. same (v .security .code) c) vs)
+-- The revaluated amounts × sign of the margined trades in a security, in cents
+abbrev pub signedWorthsIn : Code → List Valued → List SignedCents
+signedWorthsIn c vs = map (λ v. v .signedWorth) (only (λ v. same (v .security .code) c) vs)
 
--- Netting (01): the worths of the trades in one security, summed in cents, then rounded to a whole unit
-abbrev pub net : List SignedCents → SignedWhole
-net worths = rounded (signedSum worths) 100
+-- Netting (01): such amounts of one security, summed in cents, then rounded to a whole unit
+abbrev pub netOf : List SignedCents → SignedWhole
+netOf amounts = rounded (signedSum amounts) 100
 
 -- Whether a border or duration is below another; kinds I and F have none, which is below none
 abbrev pub lower : Option Duration → Option Duration → Bool

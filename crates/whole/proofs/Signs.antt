@@ -1,19 +1,22 @@
--- Signed numbers: their sizes, over any bound; that a number whose size is below 2 ^ 63 fits an i64; and what the sign's test shows.
+-- Signed numbers in an i64: that one whose size is below 2 ^ 63 fits; what is read back; and what the sign's test shows.
+-- The laws on sizes themselves stand with the paper, in its proofs/Sizes.
 -- A signed local holds the bits of its number, and `toZ w64 (ofZ w64 z)` is what is read back from them.
-use Prim.Native.Nat.{ℕ, zero, suc, _+_, _-_, _*_, _≤_, _<_, _^_}
+use Prim.Native.Nat.{ℕ, _≤_, _<_, _^_}
 use native.Mathlib.Nat.{le-refl, lt-of-le-of-lt}
 use native.Mathlib.Omega.{arith}
 use mathlib.Core.Path.{_≡_, refl, sym, ap, ap₂, _∙_, subst, subst⁻¹}
-use mathlib.Core.Bool.{Bool, true, false, cond, not, true≢false, false≢true}
-use lib.Dec.{T, ltb, ltb→lt, nltb→le, leb·suc-zero}
-use lib.IntN.{ℤ, pos, negsuc, negℤ, natAbs, subℕ, _+ℤ_, _-ℤ_, _*ℤ_, +ℤ-idl}
+use mathlib.Core.Bool.{Bool, true, false, true≢false, false≢true}
+use lib.Dec.{T, leb·suc-zero}
+use lib.IntN.{ℤ, pos, negsuc, negℤ, natAbs, _-ℤ_, +ℤ-idl}
 use lib.Signed.{mag, ltZ, nonNeg}
 use mir.Syntax.{w64}
 use mir.Val.{Fits, SFits, toZ, ofZ}
 use mir.ValLaws.{toZ-ofZ}
+use Rattle.paper.proofs.Sizes.{size-neg}
 
--- ---- sizes
+-- ---- what fits
 
+-- What has to fit is no larger than the size
 mag-le-size : (z : ℤ) → mag z ≤ natAbs z
 mag-le-size (pos n) = le-refl n
 mag-le-size (negsuc n) = omega arith
@@ -21,37 +24,6 @@ mag-le-size (negsuc n) = omega arith
 -- A number whose size is below 2 ^ 63 fits
 pub fits : (z : ℤ) → natAbs z < 2 ^ 63 → SFits w64 z
 fits z h = record { sfits = lt-of-le-of-lt (mag-le-size z) h }
-
--- A negative has its number's size
-pub size-neg : (z : ℤ) → natAbs (negℤ z) ≡ natAbs z
-size-neg (pos zero) = refl
-size-neg (pos (suc n)) = refl
-size-neg (negsuc n) = refl
-
-size-sub : (a b : ℕ) → natAbs (subℕ a b) ≤ a + b
-size-sub a b = by-test (ltb a b) (λ t. ltb→lt a b t) (λ t. nltb→le a b t)
-  where
-    by-test : (t : Bool) → (T t → a < b) → (T (not t) → b ≤ a) → natAbs (cond t (negsuc (b - suc a)) (pos (a - b))) ≤ a + b
-    by-test true lt ge = omega (arith, lt tt)
-    by-test false lt ge = omega (arith, ge tt)
-
--- A sum is no larger than the two sizes together
-pub size-sum : (a b : ℤ) → natAbs (a +ℤ b) ≤ natAbs a + natAbs b
-size-sum (pos a) (pos b) = le-refl (a + b)
-size-sum (pos a) (negsuc b) = size-sub a (suc b)
-size-sum (negsuc a) (pos b) = omega (arith, size-sub b (suc a))
-size-sum (negsuc a) (negsuc b) = omega arith
-
--- Nor is a difference
-pub size-difference : (a b : ℤ) → natAbs (a -ℤ b) ≤ natAbs a + natAbs b
-size-difference a b = subst (λ (n : ℕ). natAbs (a -ℤ b) ≤ natAbs a + n) (size-neg b) (size-sum a (negℤ b))
-
--- A product's size is the product of the sizes
-pub size-product : (a b : ℤ) → natAbs (a *ℤ b) ≡ natAbs a * natAbs b
-size-product (pos a) (pos b) = refl
-size-product (pos a) (negsuc b) = size-neg (pos (a * suc b))
-size-product (negsuc a) (pos b) = size-neg (pos (suc a * b))
-size-product (negsuc a) (negsuc b) = refl
 
 -- ---- what is read back from a signed local
 

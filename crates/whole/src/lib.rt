@@ -4,7 +4,7 @@ ghost use mathlib.Core.Path.{_≡_};
 ghost use Prim.Native.Nat.{_+_, _*_, _<_, _^_, min, max};
 ghost use lib.IntN.{pos, negℤ, natAbs, _+ℤ_, _-ℤ_, _*ℤ_};
 ghost use Rattle.paper.specs.Rounding.{nearest as nearestOf, rounded as roundedOf};
-ghost use Rattle.paper.specs.Offsetting.{aboveZero, belowZero};
+ghost use Rattle.paper.specs.Signs.{aboveZero, belowZero};
 
 // To the nearest, halves up; half the divisor is added before the division, so that has to fit.
 pub fn nearest(

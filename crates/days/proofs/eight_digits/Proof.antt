@@ -45,6 +45,7 @@ above b p = simp (lt-leb b 57 p, and-false)
 module _ (s : Text) (at : ℕ) where
   -- Too few bytes
   short : length s - at < 8 → 0 ≡ dateIn (part s at)
+  unfolding dateIn
   short h =
       let few : length (part s at) ≡ 8 → ⊥ = simp (length-take, length-drop) (omega arith) in
       simp (ne-eqb (length (part s at)) 8 few)
@@ -71,12 +72,14 @@ module _ (s : Text) (at : ℕ) where
 
     -- Another byte
     spoilt : (n : Date) (i : ℕ) → i < 8 → isDigit (getD s (at + i) 0) ≡ false → Read (part s at) n i → 0 ≡ dateIn (part s at)
+    unfolding dateIn
     spoilt n i h e r =
         let bad : every isDigit (part s at) ≡ false = r .tests ∙ ap (every isDigit) (next i h) ∙ rw (e, every) in
         simp (bad, and-false)
 
     -- Eight digits
     done : (n : Date) (i : ℕ) → 8 ≤ i → Read (part s at) n i → n ≡ dateIn (part s at)
+    unfolding dateIn
     done n i h r =
         let nil : drop i (part s at) ≡ [] = drop-of-length-le (part s at) {i = i} (omega (arith, eight)) in
         let good : every isDigit (part s at) ≡ true = r .tests ∙ ap (every isDigit) nil in

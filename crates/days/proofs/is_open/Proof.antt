@@ -3,6 +3,7 @@ use Prim.Native.Nat.{ℕ}
 use borrow.Author.Needs.{needs}
 use mathlib.Core.Path.{ap}
 use lib.Dec.{ltb}
+use Rattle.paper.specs.Days.{isOpen}
 use Rattle.days.proofs.is_open.Statement.{statement}
 use Rattle.days.proofs.is_open.Tie as tie
 
@@ -10,6 +11,7 @@ weekday-requires : tie.Need-weekday-requires
 weekday-requires c κs = search needs
 
 returns : tie.Need-returns
+unfolding isOpen
 returns c = ap (λ (w : ℕ). ltb w 5) (c .weekday .ensures)
 
 pub is-open-spec : {M : Type 1} → statement M

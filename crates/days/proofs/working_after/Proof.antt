@@ -30,6 +30,7 @@ add-d : tie.Need-add-d Inv-loop μ-loop
 add-d c = omega arith
 
 loop-holds : tie.Need-loop-holds Inv-loop μ-loop
+unfolding workingAfter
 loop-holds c =
     let next : suc (c .args .day) ≡ c .args .day + 1 = omega arith in
     (omega arith, ap (firstOpen 2) next)

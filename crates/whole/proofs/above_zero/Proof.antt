@@ -6,7 +6,7 @@ use lib.Signed.{nonNeg}
 use mir.Syntax.{w64}
 use mir.Val.{Fits}
 use mir.ValLaws.{toZ-ofZ}
-use Rattle.paper.specs.Offsetting.{aboveZero}
+use Rattle.paper.specs.Signs.{aboveZero}
 use Rattle.whole.proofs.Signs.{below, not-below, test-on, casts}
 use Rattle.whole.proofs.above_zero.Statement.{statement}
 use Rattle.whole.proofs.above_zero.Tie as tie

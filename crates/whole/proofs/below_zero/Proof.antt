@@ -5,9 +5,9 @@ use mathlib.Core.Path.{ap, _∙_}
 use lib.IntN.{natAbs}
 use mir.Syntax.{w64}
 use mir.ValLaws.{toZ-ofZ}
-use Rattle.paper.specs.Offsetting.{aboveZero}
+use Rattle.paper.specs.Signs.{aboveZero}
+use Rattle.paper.proofs.Sizes.{above-negative}
 use Rattle.whole.proofs.Signs.{from-zero}
-use Rattle.whole.proofs.Parts.{above-negative}
 use Rattle.whole.proofs.below_zero.Statement.{statement}
 use Rattle.whole.proofs.below_zero.Tie as tie
 

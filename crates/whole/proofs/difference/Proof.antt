@@ -1,7 +1,8 @@
 -- `difference` meets its contract: a difference is no larger than the two sizes together, so it fits.
 use lib.IntN.{_-ℤ_}
 use native.Mathlib.Nat.{lt-of-le-of-lt}
-use Rattle.whole.proofs.Signs.{size-difference, result-fits, result-is}
+use Rattle.paper.proofs.Sizes.{size-difference}
+use Rattle.whole.proofs.Signs.{result-fits, result-is}
 use Rattle.whole.proofs.difference.Statement.{statement}
 use Rattle.whole.proofs.difference.Tie as tie
 

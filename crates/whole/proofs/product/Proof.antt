@@ -2,7 +2,8 @@
 use lib.IntN.{_*ℤ_}
 use mathlib.Core.Path.{subst⁻¹}
 use Prim.Native.Nat.{ℕ, _<_, _^_}
-use Rattle.whole.proofs.Signs.{size-product, result-fits, result-is}
+use Rattle.paper.proofs.Sizes.{size-product}
+use Rattle.whole.proofs.Signs.{result-fits, result-is}
 use Rattle.whole.proofs.product.Statement.{statement}
 use Rattle.whole.proofs.product.Tie as tie
 

@@ -6,9 +6,10 @@ use mathlib.Core.Path.{ap}
 use lib.IntN.{pos, negℤ, natAbs}
 use mir.Syntax.{w64}
 use mir.ValLaws.{toZ-ofZ}
-use Rattle.paper.specs.Offsetting.{aboveZero, belowZero}
+use Rattle.paper.specs.Signs.{aboveZero, belowZero}
+use Rattle.paper.proofs.Sizes.{above-within, below-within}
 use Rattle.whole.proofs.Signs.{test-on}
-use Rattle.whole.proofs.Parts.{above-within, below-within, rounded-below, rounded-above, part-small, size-small, rounded-back}
+use Rattle.whole.proofs.Parts.{rounded-below, rounded-above, part-small, size-small, rounded-back}
 use Rattle.whole.proofs.rounded.Statement.{statement}
 use Rattle.whole.proofs.rounded.Tie as tie
 

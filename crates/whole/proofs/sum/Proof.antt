@@ -1,7 +1,8 @@
 -- `sum` meets its contract: a sum is no larger than the two sizes together, so it fits.
 use lib.IntN.{_+ℤ_}
 use native.Mathlib.Nat.{lt-of-le-of-lt}
-use Rattle.whole.proofs.Signs.{size-sum, result-fits, result-is}
+use Rattle.paper.proofs.Sizes.{size-sum}
+use Rattle.whole.proofs.Signs.{result-fits, result-is}
 use Rattle.whole.proofs.sum.Statement.{statement}
 use Rattle.whole.proofs.sum.Tie as tie
 

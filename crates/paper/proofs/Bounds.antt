@@ -1,0 +1,553 @@
+-- The table of bounds: how large each figure of admitted tables can be, each bound shown once. A signed figure is bound
+-- in its size, which is what it is without its sign.
+--
+--     figure                                          at most                      unit
+--     yearly coupon × days run                        800,000,000                  hundred-thousandths of a % × days
+--     payments a year × days of the period            1,600                        days
+--     accrued coupon                                  2,000,000                    hundred-thousandths of a %
+--     price with accrued coupon                       22,000,000                   hundred-thousandths of a %
+--     nominal × price with accrued coupon             2,200,000,000,000,000        cents × 100,000
+--     revaluated amount, also with its sign           22,000,000,000               cents
+--     days of repo interest                           732                          days
+--     days × amount                                   21,960,000,000,000           days × cents
+--     days × amount × rate, in size                   4,392,000,000,000,000,000    whole units × 36,000,000,000
+--     repo interest, in size                          122,000,000                  whole units
+--     mark-to-market, in size                         64,200,000,000               cents
+--     margined trades                                 500                          trades
+--     line of a margined trade                        942                          lines
+--     amounts of one security summed, in size         11,000,000,000,000           cents
+--     net of a security, in size                      110,000,000,000              whole units
+--     position of a class, opening and remaining      22,000,000,000,000           whole units
+--     factor × position                               220,000,000,000,000,000      whole units × 10,000
+--     margin of a class                               22,000,000,000,000           whole units
+--     initial margin of a currency                    880,000,000,000,000          whole units
+--     mark-to-market sum of a currency, in size       32,100,000,000,000           cents
+--     total of a currency                             88,032,100,000,000,000       cents
+use Prim.Native.Nat.{ℕ, zero, suc, _+_, _-_, _*_, max, _≤_, _<_}
+use native.Mathlib.Nat.{le-trans, mul-comm, mul-one, mul-pos, mul-le-mul, mul-le-mul-left, mul-le-mul-right, le-mul-of-pos-right, max-le}
+use native.Mathlib.Omega.{arith}
+use mathlib.Core.Bool.{Bool, true, false, _&&_}
+use mathlib.Core.List.{List, [], _∷_, map}
+use mathlib.Core.Option.{Option, none, some, Option·getD}
+use mathlib.Core.Path.{_≡_, refl, ap, _∙_}
+use lib.Dec.{T, leb, ltb}
+use lib.IntN.{ℤ, pos, natAbs, _-ℤ_, _*ℤ_}
+use lib.ListN.{length, length-map}
+use Rattle.paper.specs.Units.{Line, Day, Days, Class, Code, Currency, Nominal, Quote, Payments, Factor, Rate, Sign, Cents, SignedCents, Whole, SignedWhole}
+use Rattle.paper.specs.Lists.{sum, only}
+use Rattle.paper.specs.Signs.{aboveZero, belowZero, signedSum}
+use Rattle.paper.specs.Days.{day, workingAfter}
+use Rattle.paper.specs.Text.{same}
+use Rattle.paper.specs.Rows.{Trade, repo, cash, Side, seller, purchaser, ClassRow, PriorityRow, SecurityRow, TradeRow, Tables}
+use Rattle.paper.specs.Valuation.{lastDay, margined, accrualDay, accrued, accruedOn, revaluated, interest, interestOf, signOf, markToMarket, securityOf, Valued, valued, valuedFrom, valuedIn, signedWorthsIn, netOf}
+use Rattle.paper.specs.Refusals.{classRules, priorityRules, securityRules, tradeRules}
+use Rattle.paper.specs.Offsetting.{Book, position, Netted, nettedIn, flat, summed, opening, offsetAll, total}
+use Rattle.paper.specs.Report.{marginOf, markIn}
+use Rattle.paper.specs.Tables.{hold, Admitted}
+use Rattle.paper.proofs.Lists.{tests, holds, Each, nil, cons, each-map, each-all, each-found, each-only, length-only, each-made, sum-most, set-most}
+use Rattle.paper.proofs.Rounding.{share-below}
+use Rattle.paper.proofs.Days.{working-after, working-within}
+use Rattle.paper.proofs.Sizes.{size-difference, size-product, size-signed-sum, above-within, below-within, nearest-at-most, rounded-at-most}
+use Rattle.paper.proofs.Rules.{DateFacts, ClassFacts, PriorityFacts, SecurityFacts, TradeFacts, date-facts, class-facts, priority-facts, security-facts, trade-facts, in-period, each-holds, classes-at-most, priorities-at-most, securities-at-most, trades-at-most}
+use Rattle.paper.proofs.Offsetting.{rows-lower}
+
+-- ---- the table, each with what it comes from
+
+-- Yearly coupon × days run: 2,000,000 hundred-thousandths of a percent × 400 days
+abbrev pub mostAccrualProduct : ℕ
+mostAccrualProduct = 800_000_000
+
+-- Payments a year × days of the coupon period: 4 × 400 days
+abbrev pub mostAccrualDivisor : Days
+mostAccrualDivisor = 1_600
+
+-- Accrued coupon, hundred-thousandths of a percent: no more than the yearly
+abbrev pub mostAccrued : Quote
+mostAccrued = 2_000_000
+
+-- Price with accrued coupon, hundred-thousandths of a percent: 20,000,000 + 2,000,000
+abbrev pub mostQuote : Quote
+mostQuote = 22_000_000
+
+-- Nominal × that: 100,000,000 whole units × 22,000,000
+abbrev pub mostWorthProduct : ℕ
+mostWorthProduct = 2_200_000_000_000_000
+
+-- Revaluated amount, cents: that / 100,000
+abbrev pub mostWorth : Cents
+mostWorth = 22_000_000_000
+
+-- Days of repo interest: the 729th of 730 days, and 3 to the next working day
+abbrev pub mostInterestDays : Days
+mostInterestDays = 732
+
+-- Days × amount: 732 days × 30,000,000,000 cents
+abbrev pub mostDaysAmount : ℕ
+mostDaysAmount = 21_960_000_000_000
+
+-- Days × amount × rate: that × 200,000 ten-thousandths of a percent; below 2 ^ 63
+abbrev pub mostInterestProduct : ℕ
+mostInterestProduct = 4_392_000_000_000_000_000
+
+-- Repo interest, whole units: that / 36,000,000,000
+abbrev pub mostInterest : Whole
+mostInterest = 122_000_000
+
+-- Mark-to-market, cents: 22,000,000,000 + 30,000,000,000 + 100 × 122,000,000
+abbrev pub mostMark : Cents
+mostMark = 64_200_000_000
+
+-- Margined trades: no more than T rows
+abbrev pub mostTrades : ℕ
+mostTrades = 500
+
+-- Line of a margined trade: the header, the D row, 40 + 200 + 200 rows and 500 T rows
+abbrev pub mostLine : Line
+mostLine = 942
+
+-- Amounts of one security summed, cents: 500 × 22,000,000,000
+abbrev pub mostNetCents : Cents
+mostNetCents = 11_000_000_000_000
+
+-- Net of a security, whole units: that / 100
+abbrev pub mostNet : Whole
+mostNet = 110_000_000_000
+
+-- Position of a class, whole units: 200 securities × 110,000,000,000
+abbrev pub mostPosition : Whole
+mostPosition = 22_000_000_000_000
+
+-- Factor × position: 10,000 ten-thousandths × that
+abbrev pub mostShareProduct : ℕ
+mostShareProduct = 220_000_000_000_000_000
+
+-- Margin of a class, whole units: no more than a position
+abbrev pub mostMargin : Whole
+mostMargin = 22_000_000_000_000
+
+-- Initial margin of a currency, whole units: 40 classes × that
+abbrev pub mostInitial : Whole
+mostInitial = 880_000_000_000_000
+
+-- Mark-to-market sum of a currency, cents: 500 × 64,200,000,000
+abbrev pub mostMarkSum : Cents
+mostMarkSum = 32_100_000_000_000
+
+-- Total of a currency, cents: 100 × 880,000,000,000,000 + 32,100,000,000,000
+abbrev pub mostTotal : Cents
+mostTotal = 88_032_100_000_000_000
+
+-- ---- one trade
+
+-- Within a coupon period, what is divided for the accrued coupon: hundred-thousandths of a percent × days
+pub accrual-product-most : (s : SecurityRow) → SecurityFacts s → (on : Day) → on < day (s .next)
+    → s .coupon * (on - day (s .previous)) ≤ mostAccrualProduct
+accrual-product-most s f on l = mul-le-mul (f .coupon) (go (day (s .previous)) (day (s .next)) l (f .period-high))
+  where
+    go : (previous next : Day) → on < next → next - previous ≤ 400 → on - previous ≤ 400
+    go previous next l h = omega arith
+
+-- What it is divided by is one day or more
+pub accrual-divisor-low : (s : SecurityRow) → SecurityFacts s → 1 ≤ s .payments * (day (s .next) - day (s .previous))
+accrual-divisor-low s f = mul-pos (f .payments-low) (f .period-low)
+
+-- ... and at most 1,600 days
+pub accrual-divisor-most : (s : SecurityRow) → SecurityFacts s
+    → s .payments * (day (s .next) - day (s .previous)) ≤ mostAccrualDivisor
+accrual-divisor-most s f = mul-le-mul (f .payments-high) (f .period-high)
+
+-- Coupon accrued over no more than its period is at most the yearly coupon, hundred-thousandths of a percent
+pub accrued-most : (coupon : Quote) (payments : Payments) (run period : Days)
+    → 1 ≤ payments → 1 ≤ period → run ≤ period → accrued coupon payments run period ≤ coupon
+accrued-most coupon payments run period p q r =
+    nearest-at-most (coupon * run) coupon (payments * period) (mul-pos p q)
+    (mul-le-mul-left coupon (le-trans r (rw (mul-comm payments period) (le-mul-of-pos-right period p))))
+
+-- Accrued coupon of a security on a day of its coupon period, hundred-thousandths of a percent
+pub accrued-on-most : (s : SecurityRow) → SecurityFacts s → (on : Day) → on < day (s .next)
+    → accruedOn s on ≤ mostAccrued
+accrued-on-most s f on l =
+    le-trans
+    (accrued-most (s .coupon) (s .payments) (on - day (s .previous)) (day (s .next) - day (s .previous))
+    (f .payments-low)
+    (f .period-low)
+    (go (day (s .previous)) (day (s .next)) l))
+    (f .coupon)
+  where
+    go : (previous next : Day) → on < next → on - previous ≤ next - previous
+    go previous next l = omega arith
+
+-- Price with accrued coupon, hundred-thousandths of a percent
+pub quote-most : (s : SecurityRow) → SecurityFacts s → (on : Day) → on < day (s .next)
+    → s .price + accruedOn s on ≤ mostQuote
+quote-most s f on l = omega (arith, f .price-high, accrued-on-most s f on l)
+
+-- Nominal × price with accrued coupon, cents × 100,000
+pub worth-product-most : (nominal : Nominal) (quote : Quote) → nominal ≤ 100_000_000 → quote ≤ mostQuote
+    → nominal * quote ≤ mostWorthProduct
+worth-product-most nominal quote p q = mul-le-mul p q
+
+-- Revaluated amount, cents
+pub worth-most : (nominal : Nominal) (quote : Quote) → nominal ≤ 100_000_000 → quote ≤ mostQuote
+    → revaluated nominal quote ≤ mostWorth
+worth-most nominal quote p q =
+    nearest-at-most (nominal * quote) mostWorth 100_000 (omega arith) (worth-product-most nominal quote p q)
+
+-- A margined repo has begun by the calculation day, and ends after it
+pub repo-runs : (today : Day) (t : TradeRow) → t .trade ≡ repo → margined today t ≡ true
+    → (day (t .first) ≤ today) × (today < lastDay t)
+repo-runs today t e m =
+    let h : T (leb (day (t .first)) today && ltb today (lastDay t)) = holds _ (rw (e, margined) at m) in
+    search tests
+
+-- The interest of a margined repo runs from its first day on, for at most 732 days
+pub interest-days : (today : Day) (t : TradeRow) → TradeFacts t → t .trade ≡ repo → margined today t ≡ true
+    → (day (t .first) ≤ workingAfter today) × (workingAfter today - day (t .first) ≤ mostInterestDays)
+interest-days today t f e m = go (day (t .first)) (lastDay t) (repo-runs today t e m) (f .term e .1)
+  where
+    go : (first last : Day) → (first ≤ today) × (today < last) → last - first ≤ 730
+        → (first ≤ workingAfter today) × (workingAfter today - first ≤ mostInterestDays)
+    go first last r l = omega (arith, working-after today, working-within today)
+
+-- A rate is at most 200,000 ten-thousandths of a percent in size, and so is 0 where there is none
+pub rate-most : (t : TradeRow) → TradeFacts t → natAbs (Option·getD (t .rate) (pos 0)) ≤ 200_000
+rate-most t f = go (t .rate) (f .rate)
+  where
+    go : (o : Option Rate) → ((r : Rate) → o ≡ some r → natAbs r ≤ 200_000) → natAbs (Option·getD o (pos 0)) ≤ 200_000
+    go none h = omega arith
+    go (some r) h = h r refl
+
+-- Days × cents
+pub days-amount-most : (days : Days) (amount : Cents) → days ≤ mostInterestDays → amount ≤ 30_000_000_000
+    → days * amount ≤ mostDaysAmount
+days-amount-most days amount d a = mul-le-mul d a
+
+-- Days × amount × rate, in size: whole units × 36,000,000,000
+pub interest-product-most : (days : Days) (amount : Cents) (rate : Rate)
+    → days ≤ mostInterestDays → amount ≤ 30_000_000_000 → natAbs rate ≤ 200_000
+    → natAbs (pos (days * amount) *ℤ rate) ≤ mostInterestProduct
+interest-product-most days amount rate d a r =
+    rw (size-product (pos (days * amount)) rate) (mul-le-mul (days-amount-most days amount d a) r)
+
+-- Repo interest, in size: whole units
+pub interest-most : (days : Days) (amount : Cents) (rate : Rate)
+    → days ≤ mostInterestDays → amount ≤ 30_000_000_000 → natAbs rate ≤ 200_000
+    → natAbs (interest days amount rate) ≤ mostInterest
+interest-most days amount rate d a r =
+    rounded-at-most (pos (days * amount) *ℤ rate) mostInterest 36_000_000_000 (omega arith)
+    (interest-product-most days amount rate d a r)
+
+-- Interest of a margined trade, in size: whole units
+pub interest-of-most : (today : Day) (t : TradeRow) → TradeFacts t → margined today t ≡ true
+    → natAbs (interestOf today t) ≤ mostInterest
+interest-of-most today t f m = go (t .trade) refl
+  where
+    go : (trade : Trade) → t .trade ≡ trade → natAbs (interestOf today t) ≤ mostInterest
+    go cash e = rw (e, interestOf) (omega arith)
+    go repo e =
+        rw (e, interestOf)
+        (interest-most (workingAfter today - day (t .first)) (t .amount) (Option·getD (t .rate) (pos 0))
+        (interest-days today t f e m .1)
+        (f .amount-high)
+        (rate-most t f))
+
+-- A trade's sign is 1 in size
+pub sign-size : (trade : Trade) (side : Side) → natAbs (signOf trade side) ≡ 1
+sign-size cash seller = refl
+sign-size cash purchaser = refl
+sign-size repo seller = refl
+sign-size repo purchaser = refl
+
+-- Such a sign leaves a size as it is
+pub signed-size : (z : ℤ) (sign : Sign) → natAbs sign ≡ 1 → natAbs (z *ℤ sign) ≡ natAbs z
+signed-size z sign e = size-product z sign ∙ ap (λ n. natAbs z * n) e ∙ mul-one (natAbs z)
+
+-- Mark-to-market, in size, with what is computed on the way to it: revaluated less traded amount, 100 × interest, and
+-- the mark-to-market before its sign. All in cents
+pub record MarkFacts (worth amount : Cents) (due : SignedWhole) (sign : Sign) : Type 0 where
+  pub gain : natAbs (pos worth -ℤ pos amount) ≤ 52_000_000_000
+  pub hundredfold : natAbs (pos 100 *ℤ due) ≤ 12_200_000_000
+  pub unsigned : natAbs (pos worth -ℤ pos amount -ℤ pos 100 *ℤ due) ≤ mostMark
+  pub mark : natAbs (markToMarket worth amount due sign) ≤ mostMark
+
+-- They hold of a trade within the bounds on its amounts and its interest
+pub mark-most : (worth amount : Cents) (due : SignedWhole) (sign : Sign)
+    → worth ≤ mostWorth → amount ≤ 30_000_000_000 → natAbs due ≤ mostInterest → natAbs sign ≡ 1
+    → MarkFacts worth amount due sign
+mark-most worth amount due sign w a d s =
+    let gain = size-difference (pos worth) (pos amount) in
+    let hundredfold = size-product (pos 100) due in
+    let unsigned = size-difference (pos worth -ℤ pos amount) (pos 100 *ℤ due) in
+    record {
+      gain = omega arith;
+      hundredfold = omega arith;
+      unsigned = omega arith;
+      mark = rw (signed-size (pos worth -ℤ pos amount -ℤ pos 100 *ℤ due) sign s) (omega arith);
+    }
+
+-- What holds of a margined trade: its line, its security's facts, and its two figures in size, both in cents
+pub record ValuedFacts (v : Valued) : Type 0 where
+  pub line : v .line ≤ mostLine
+  pub security : SecurityFacts (v .security)
+  pub worth : natAbs (v .signedWorth) ≤ mostWorth
+  pub mark : natAbs (v .mark) ≤ mostMark
+
+-- They hold of a margined trade whose accrual day is before the next coupon date
+pub valued-facts : (today : Day) (at : Line) (t : TradeRow) (s : SecurityRow)
+    → TradeFacts t → SecurityFacts s → margined today t ≡ true → accrualDay today t < day (s .next) → at ≤ mostLine
+    → ValuedFacts (valued today at t s)
+valued-facts today at t s f g m l a =
+    let quote = s .price + accruedOn s (accrualDay today t) in
+    let worth = worth-most (t .nominal) quote (f .nominal-high) (quote-most s g (accrualDay today t) l) in
+    let sign = sign-size (t .trade) (t .side) in
+    record {
+      line = a;
+      security = g;
+      worth = rw (signed-size (pos (revaluated (t .nominal) quote)) (signOf (t .trade) (t .side)) sign) worth;
+      mark =
+          mark-most (revaluated (t .nominal) quote) (t .amount) (interestOf today t) (signOf (t .trade) (t .side)) worth
+          (f .amount-high)
+          (interest-of-most today t f m)
+          sign .mark;
+    }
+
+-- ---- the margined trades
+
+-- What the rules say of a T row in its table: its fields, and its accrual day in its security's coupon period
+pub record TradeIn (today : Day) (ss : List SecurityRow) (t : TradeRow) : Type 0 where
+  pub facts : TradeFacts t
+  pub period : (s : SecurityRow) → securityOf ss (t .code) ≡ some s → margined today t ≡ true
+      → (day (s .previous) ≤ accrualDay today t) × (accrualDay today t < day (s .next))
+
+-- It holds where the row's rules do
+pub trade-in : (today : Day) (ss : List SecurityRow) (above : List TradeRow) (t : TradeRow)
+    → T (hold (tradeRules today ss above t)) → TradeIn today ss t
+trade-in today ss above t h =
+    record { facts = trade-facts today ss above t h; period = in-period today ss above t h }
+
+-- The margined trades of a table that begins at a line: each with its facts, and no more than there are trades
+pub valued-from : (today : Day) (ss : List SecurityRow) (at : Line) (ts : List TradeRow)
+    → Each SecurityFacts ss → Each (TradeIn today ss) ts → at + length ts ≤ suc mostLine
+    → Each ValuedFacts (valuedFrom today ss at ts) × (length (valuedFrom today ss at ts) ≤ length ts)
+unfolding valuedFrom
+valued-from today ss at [] fs nil l = (nil, omega arith)
+valued-from today ss at (t ∷ ts) fs (cons f gs) l =
+    go (margined today t) refl (securityOf ss (t .code)) refl (valued-from today ss (suc at) ts fs gs (omega arith))
+  where
+    rest : List Valued
+    rest = valuedFrom today ss (suc at) ts
+
+    Bound : List Valued → ℕ → Type 0
+    Bound vs n = Each ValuedFacts vs × (length vs ≤ n)
+
+    go : (m : Bool) → margined today t ≡ m → (o : Option SecurityRow) → securityOf ss (t .code) ≡ o
+        → Bound rest (length ts)
+        → Bound (elim m [ false ↦ rest | true ↦ elim o [ none ↦ rest | some s ↦ valued today at t s ∷ rest ] ])
+        (suc (length ts))
+    go false e o k r = (r .0, omega arith)
+    go true e none k r = (r .0, omega arith)
+    go true e (some s) k r =
+        let security = each-found (λ s. same (s .code) (t .code)) ss fs s k in
+        (cons (valued-facts today at t s (f .facts) security e (f .period s k e .1) (omega arith)) (r .0), omega arith)
+
+-- What the rules say of admitted tables
+pub record TableFacts (t : Tables) : Type 0 where
+  pub date : DateFacts (t .date)
+  pub classes : Each ClassFacts (t .classes)
+  pub priorities : Each PriorityFacts (t .priorities)
+  pub securities : Each SecurityFacts (t .securities)
+  pub trades : Each (TradeIn (day (t .date)) (t .securities)) (t .trades)
+  pub few-classes : length (t .classes) ≤ 40
+  pub few-priorities : length (t .priorities) ≤ 200
+  pub few-securities : length (t .securities) ≤ 200
+  pub few-trades : length (t .trades) ≤ 500
+
+-- It holds where the tables are admitted
+pub table-facts : (t : Tables) → Admitted t → TableFacts t
+table-facts t a =
+    let today = day (t .date) in
+    record {
+      date = date-facts (t .date) (a .0);
+      classes = each-holds classRules ClassFacts class-facts [] (t .classes) (a .1);
+      priorities =
+          each-holds (priorityRules (t .classes)) PriorityFacts (priority-facts (t .classes)) [] (t .priorities) (a .2);
+      securities =
+          each-holds (securityRules (t .classes)) SecurityFacts (security-facts (t .classes)) [] (t .securities) (a .3);
+      trades =
+          each-holds (tradeRules today (t .securities)) (TradeIn today (t .securities)) (trade-in today (t .securities)) []
+          (t .trades)
+          (a .4);
+      few-classes = classes-at-most (t .classes) (a .1);
+      few-priorities = priorities-at-most (t .classes) (t .priorities) (a .2);
+      few-securities = securities-at-most (t .classes) (t .securities) (a .3);
+      few-trades = trades-at-most today (t .securities) (t .trades) (a .4);
+    }
+
+-- What holds of the margined trades of a sheet: each has its facts, and they are at most 500
+pub record MarginedFacts (vs : List Valued) : Type 0 where
+  pub each : Each ValuedFacts vs
+  pub few : length vs ≤ mostTrades
+
+-- It holds where the tables are admitted
+pub margined-facts : (t : Tables) → Admitted t → MarginedFacts (valuedIn t)
+margined-facts t a =
+    let f = table-facts t a in
+    let at = 3 + length (t .classes) + length (t .priorities) + length (t .securities) in
+    let v = valued-from (day (t .date)) (t .securities) at (t .trades) (f .securities) (f .trades) (omega arith) in
+    record { each = v .0; few = le-trans (v .1) (f .few-trades) }
+
+-- ---- nets
+
+-- A figure of those margined trades that pass a test, each at most so large, summed: in size, of the figure's unit
+picked-sum-most : (figure : Valued → ℤ) (test : Valued → Bool) (most : ℕ) (vs : List Valued)
+    → length vs ≤ mostTrades → Each (λ v. natAbs (figure v) ≤ most) vs
+    → natAbs (signedSum (map figure (only test vs))) ≤ mostTrades * most
+picked-sum-most figure test most vs few each =
+    let picked = only test vs in
+    le-trans (size-signed-sum most (map figure picked) (each-made figure picked (each-only test vs each)))
+    (mul-le-mul-right most (rw (length-map picked figure) (le-trans (length-only test vs) few)))
+
+-- The revaluated amounts × sign in one security, summed: in size, cents
+pub net-cents-most : (c : Code) (vs : List Valued) → MarginedFacts vs
+    → natAbs (signedSum (signedWorthsIn c vs)) ≤ mostNetCents
+net-cents-most c vs f =
+    picked-sum-most (λ v. v .signedWorth) (λ v. same (v .security .code) c) mostWorth vs (f .few)
+    (each-map (λ v g. g .worth) (f .each))
+
+-- The net of a security: in size, whole units
+pub net-most : (c : Code) (vs : List Valued) → MarginedFacts vs → natAbs (netOf (signedWorthsIn c vs)) ≤ mostNet
+net-most c vs f = rounded-at-most (signedSum (signedWorthsIn c vs)) mostNet 100 (omega arith) (net-cents-most c vs f)
+
+-- The mark-to-market sum of a currency: in size, cents
+pub mark-sum-most : (c : Currency) (vs : List Valued) → MarginedFacts vs → natAbs (markIn c vs) ≤ mostMarkSum
+mark-sum-most c vs f =
+    picked-sum-most (λ v. v .mark) (λ v. same (v .security .currency) c) mostMark vs (f .few)
+    (each-map (λ v g. g .mark) (f .each))
+
+-- ---- positions
+
+-- A net that is as small as a security's: in size, whole units
+abbrev pub SmallNet : Netted → Type 0
+SmallNet n = natAbs (n .net) ≤ mostNet
+
+-- The nets of securities are as small as that
+pub nets-most : (cs : List ClassRow) (vs : List Valued) → MarginedFacts vs → (ss : List SecurityRow)
+    → Each SmallNet (map (nettedIn cs vs) ss)
+nets-most cs vs f ss = each-made (nettedIn cs vs) ss (each-all (λ s. net-most (s .code) vs f) ss)
+
+-- Where there is no position, each class has 0
+flat-zero : (n : Class) (c : Class) → position (flat n) c ≡ 0
+flat-zero zero zero = refl
+flat-zero zero (suc c) = refl
+flat-zero (suc n) zero = refl
+flat-zero (suc n) (suc c) = flat-zero n c
+
+-- One side of such nets, summed by class, is at most the largest net times how many they are: whole units
+pub summed-most : (side : SignedWhole → Whole) → ((z : SignedWhole) → side z ≤ natAbs z)
+    → (ns : List Netted) → Each SmallNet ns → (c : Class) → position (summed side ns) c ≤ length ns * mostNet
+unfolding summed
+summed-most side within [] nil c = rw (flat-zero 40 c) (omega arith)
+summed-most side within (n ∷ ns) (cons small rest) c =
+    let ps = summed side ns in
+    let there = summed-most side within ns rest c in
+    let own = summed-most side within ns rest (n .class) in
+    set-most (suc (length ns) * mostNet) ps (n .class) (position ps (n .class) + side (n .net)) c
+    (omega arith)
+    (omega (arith, within (n .net)))
+
+-- Every position of a book is at most so large: whole units
+pub record BookFacts (b : Book) : Type 0 where
+  pub long : (n : Class) → position (b .long) n ≤ mostPosition
+  pub short : (n : Class) → position (b .short) n ≤ mostPosition
+
+-- It holds of the opening positions of at most 200 such nets
+pub opening-most : (ns : List Netted) → length ns ≤ 200 → Each SmallNet ns → BookFacts (opening ns)
+opening-most ns few each =
+    record {
+      long = λ n. le-trans (summed-most aboveZero above-within ns each n) (mul-le-mul-right mostNet few);
+      short = λ n. le-trans (summed-most belowZero below-within ns each n) (mul-le-mul-right mostNet few);
+    }
+
+-- It holds of what any rows of the priority list leave
+pub remaining-most : (os : List PriorityRow) (b : Book) → BookFacts b → BookFacts (offsetAll os b)
+remaining-most os b f =
+    record {
+      long = λ n. le-trans (rows-lower os b n .0) (f .long n);
+      short = λ n. le-trans (rows-lower os b n .1) (f .short n);
+    }
+
+-- ---- margins
+
+-- A factor × a position, or × the larger or smaller of two: whole units × 10,000
+pub share-product-most : (factor : Factor) (amount : Whole) → factor ≤ 10_000 → amount ≤ mostPosition
+    → factor * amount ≤ mostShareProduct
+share-product-most factor amount f a = mul-le-mul f a
+
+-- The margin of a class, whole units
+pub margin-most : (c : ClassRow) (b : Book) → ClassFacts c → BookFacts b → marginOf b c ≤ mostMargin
+margin-most c b f g =
+    let larger = max (position (b .long) (c .class)) (position (b .short) (c .class)) in
+    le-trans (share-below (c .deposit) larger (f .deposit)) (max-le (g .long (c .class)) (g .short (c .class)))
+
+-- The initial margin of a currency, whole units
+pub initial-most : (cs : List ClassRow) (b : Book) → length cs ≤ 40 → Each ClassFacts cs → BookFacts b
+    → sum (map (marginOf b) cs) ≤ mostInitial
+initial-most cs b few each g =
+    let small = each-made (marginOf b) cs (each-map (λ c f. margin-most c b f g) each) in
+    le-trans (sum-most mostMargin (map (marginOf b) cs) small)
+    (mul-le-mul-right {n = 40} mostMargin (rw (length-map cs (marginOf b)) few))
+
+-- The total of a currency, cents
+pub total-most : (initial : Whole) (mark : SignedCents) → initial ≤ mostInitial → natAbs mark ≤ mostMarkSum
+    → total initial mark ≤ mostTotal
+total-most initial mark i m =
+    omega (arith, above-within (pos (100 * initial) -ℤ mark), size-difference (pos (100 * initial)) mark)
+
+-- ---- one currency of admitted tables
+
+-- The nets of all securities, as the report has them
+abbrev pub netsIn : Tables → List Netted
+netsIn t = map (nettedIn (t .classes) (valuedIn t)) (t .securities)
+
+-- The opening positions of a currency, as the report has them
+abbrev pub openingIn : Tables → Currency → Book
+openingIn t c = opening (only (λ n. same (n .currency) c) (netsIn t))
+
+-- ... and its remaining positions
+abbrev pub remainingIn : Tables → Currency → Book
+remainingIn t c = offsetAll (t .priorities) (openingIn t c)
+
+-- The opening positions of a currency, whole units; `remaining-most` has what is left of them after any rows
+pub opening-in-most : (t : Tables) → Admitted t → (c : Currency) → BookFacts (openingIn t c)
+opening-in-most t a c =
+    let net = nettedIn (t .classes) (valuedIn t) in
+    let few : length (netsIn t) ≤ 200 = rw (length-map (t .securities) net) (table-facts t a .few-securities) in
+    opening-most (only own (netsIn t)) (le-trans (length-only own (netsIn t)) few)
+    (each-only own (netsIn t) (nets-most (t .classes) (valuedIn t) (margined-facts t a) (t .securities)))
+  where
+    own : Netted → Bool
+    own n = same (n .currency) c
+
+-- How large the figures of a currency are: its remaining positions, class margins and initial margin in whole units,
+-- its mark-to-market sum and total in cents
+pub record CurrencyFacts (t : Tables) (c : Currency) : Type 0 where
+  pub book : BookFacts (remainingIn t c)
+  pub margins : Each (λ r. marginOf (remainingIn t c) r ≤ mostMargin) (t .classes)
+  pub initial : sum (map (marginOf (remainingIn t c)) (t .classes)) ≤ mostInitial
+  pub mark : natAbs (markIn c (valuedIn t)) ≤ mostMarkSum
+  pub total : total (sum (map (marginOf (remainingIn t c)) (t .classes))) (markIn c (valuedIn t)) ≤ mostTotal
+
+-- So large at most, where the tables are admitted
+pub currency-facts : (t : Tables) → Admitted t → (c : Currency) → CurrencyFacts t c
+currency-facts t a c =
+    let f = table-facts t a in
+    let book = remaining-most (t .priorities) (openingIn t c) (opening-in-most t a c) in
+    let initial = initial-most (t .classes) (remainingIn t c) (f .few-classes) (f .classes) book in
+    let mark = mark-sum-most c (valuedIn t) (margined-facts t a) in
+    record {
+      book = book;
+      margins = each-map (λ r g. margin-most r (remainingIn t c) g book) (f .classes);
+      initial = initial;
+      mark = mark;
+      total = total-most (sum (map (marginOf (remainingIn t c)) (t .classes))) (markIn c (valuedIn t)) initial mark;
+    }

@@ -1,0 +1,206 @@
+-- The three demands, proved of the kit's value. No axiom.
+use Prim.Native.Nat.{ℕ, _+_, _≤_}
+use native.Mathlib.Omega.{arith}
+use mathlib.Core.Bool.{Bool, true, _&&_}
+use mathlib.Core.List.{List, [], _∷_, _++_, map}
+use mathlib.Core.Path.{_≡_, refl, sym, ap, ap₂, _∙_, subst, fun-ext}
+use lib.Dec.{T, leb, ltb, leb→le, le→leb, lt→ltb}
+use lib.ListN.{length, take, drop}
+use lib.Seq.{take-append-seam}
+use Rattle.paper.specs.Units.{Text, Room, Currency}
+use Rattle.paper.specs.Rows.{ClassRow, PriorityRow, Tables}
+use Rattle.paper.specs.Lists.{sum, every, only, joinedUp}
+use Rattle.paper.specs.Text.{same}
+use Rattle.paper.specs.Days.{day}
+use Rattle.paper.specs.Currencies.{currencies}
+use Rattle.paper.specs.Valuation.{Valued, valuedFrom}
+use Rattle.paper.specs.Offsetting.{Netted, nettedIn, Book, opening}
+use Rattle.paper.specs.Refusals.{Outcome, refused, accepted, judged, _>>=_, isClass, isFactor, hasClass, priorityRules}
+use Rattle.paper.specs.Sheet.{readSheet}
+use Rattle.paper.specs.Report.{tradeLine, marginOf, classLine, currencyLine, markIn, currencyLines, reportOf}
+use Rattle.paper.specs.Answer.{Answer, roomRules, answer, numberOf, bufferAfter, kit}
+use Rattle.paper.specs.Tables.{sheetOf, hold, holdDown, Admitted}
+use Rattle.paper.specs.Demands.{IsAnswer, Gives, Demand1, Demand2, Demand3, Reordering, RowTakes, names, withPriorities}
+use Rattle.paper.proofs.Lists.{tests, passes, holds, together, both, every-cons, each-every}
+use Rattle.paper.proofs.Rules.{each-holds, priorities-at-most}
+use Rattle.paper.proofs.Outcomes.{Sound, judged-holds, judged-accepted, judged-sound, both-accepted, bind-sound, accepted-one}
+use Rattle.paper.proofs.Views.{written-read, read-written}
+use Rattle.paper.proofs.Refusals.{read-sound}
+use Rattle.paper.proofs.Lengths.{report-fits, sheet-fits}
+use Rattle.paper.proofs.Reordering.{Reordered, Apart, same-length, same-every}
+use Rattle.paper.proofs.Offsetting.{taken-there, row-conserves, row-lowers, rows-keep, rows-reordered, same-offsets}
+
+-- The kit gives the answer of document 01, whatever the sheet and the buffer
+gives-answer : (sheet buffer : Text) (a : Answer) → answer (length buffer) sheet ≡ a → Gives kit sheet buffer a
+unfolding kit
+gives-answer sheet buffer a e = ap (λ (a : Answer). (numberOf a, bufferAfter a buffer)) e
+
+-- ---- what an answer may be
+
+-- The tables of a sheet, where the buffer and the sheet have room
+abbrev tablesOf : Room → Text → Outcome Tables
+tablesOf room sheet = judged 0 sheet (roomRules room sheet) >>= readSheet
+
+tables-sound : (room : Room) (sheet : Text) → Sound 65_536 (tablesOf room sheet)
+tables-sound room sheet =
+    bind-sound 65_536 (judged 0 sheet (roomRules room sheet)) readSheet
+    (judged-sound 65_536 0 sheet (roomRules room sheet) refl (omega arith))
+    (λ s e.
+    let (same, holding) = judged-accepted 0 sheet s (roomRules room sheet) e in
+    read-sound s (subst (λ (s : Text). length s ≤ 65_536) same (leb→le (length sheet) 65_536 (search tests))))
+
+-- Tables that were read are admitted, and the sheet is their writing
+tables-admitted : (room : Room) (sheet : Text) (t : Tables) → tablesOf room sheet ≡ accepted t → Admitted t × (sheet ≡ sheetOf t)
+tables-admitted room sheet t e =
+    both-accepted (judged 0 sheet (roomRules room sheet)) readSheet t e λ s e1 k1.
+    let same = judged-accepted 0 sheet s (roomRules room sheet) e1 .0 in
+    subst (λ (s : Text). Admitted t × (s ≡ sheetOf t)) (sym same) (read-written s t k1)
+
+is-answer : (room : Room) (sheet : Text) → IsAnswer (answer room sheet)
+is-answer room sheet = go (tablesOf room sheet) (tables-sound room sheet) (tables-admitted room sheet)
+  where
+    go : (o : Outcome Tables) → Sound 65_536 o → ((t : Tables) → o ≡ accepted t → Admitted t × (sheet ≡ sheetOf t))
+        → IsAnswer (o >>= λ t. accepted (reportOf t))
+    go (refused number line) s admitted = s
+    go (accepted t) s admitted = report-fits t (admitted t refl .0)
+
+-- Demand 1. The kit answers every sheet of bytes and ends. A bad sheet is refused by number and line, and a refusal
+-- leaves every byte of the lent report as it was. Callers check nothing first.
+pub demand-1 : Demand1 kit
+demand-1 = (
+  λ sheet buffer s b. (answer (length buffer) sheet, is-answer (length buffer) sheet, gives-answer sheet buffer _ refl),
+  λ sheet buffer s b number line e. gives-answer sheet buffer (refused number line) e,
+)
+
+-- ---- accepted exactly when admitted
+
+-- The answer to admitted tables, written as a sheet, is their report
+answer-admitted : (room : Room) (t : Tables) → 32_768 ≤ room → Admitted t → answer room (sheetOf t) ≡ accepted (reportOf t)
+answer-admitted room t h a =
+    let holding : T (hold (roomRules room (sheetOf t))) =
+    together (leb 32_768 room) (leb (length (sheetOf t)) 65_536 && true) (le→leb 32_768 room h)
+    (together (leb (length (sheetOf t)) 65_536) true (le→leb (length (sheetOf t)) 65_536 (sheet-fits t a)) tt)
+    in
+    let read : tablesOf room (sheetOf t) ≡ accepted t =
+    ap (λ (o : Outcome Text). o >>= readSheet) (judged-holds 0 (sheetOf t) (roomRules room (sheetOf t)) holding) ∙ written-read t a
+    in
+    ap (λ (o : Outcome Tables). o >>= λ t. accepted (reportOf t)) read
+
+-- A kit gives one report
+one-report : (r report buffer : Text) → numberOf (accepted r) ≡ numberOf (accepted report)
+    → bufferAfter (accepted r) buffer ≡ bufferAfter (accepted report) buffer → r ≡ report
+one-report r report buffer number bytes =
+    sym (take-append-seam r (drop (length r) buffer)) ∙ ap (take (length r)) bytes
+    ∙ ap (λ (n : ℕ). take n (report ++ drop (length report) buffer)) number
+    ∙ take-append-seam report (drop (length report) buffer)
+
+-- Demand 2. An accepted sheet gives exactly the figures of document 01, over whole numbers, and a sheet is accepted
+-- exactly when document 01's rules admit it.
+pub demand-2 : Demand2 kit
+demand-2 sheet buffer s b room report fits = (
+  λ given. go (answer (length buffer) sheet) refl (is-answer (length buffer) sheet) given,
+  λ (t, admitted, written, figures).
+      gives-answer sheet buffer (accepted report)
+      (ap (answer (length buffer)) written ∙ answer-admitted (length buffer) t room admitted ∙ ap accepted (sym figures)),
+)
+  where
+    go : (a : Answer) → answer (length buffer) sheet ≡ a → IsAnswer a → Gives kit sheet buffer (accepted report)
+        → (t : Tables) × Admitted t × (sheet ≡ sheetOf t) × (report ≡ reportOf t)
+    go (refused number line) e (low, high, below) given =
+        let same : numberOf (refused number line) ≡ length report =
+        ap (λ x. x .0) (sym (gives-answer sheet buffer (refused number line) e) ∙ given)
+        in
+        absurd (omega arith)
+    go (accepted r) e fits given =
+        let both = sym (gives-answer sheet buffer (accepted r) e) ∙ given in
+        let same : r ≡ report = one-report r report buffer (ap (λ x. x .0) both) (ap (λ x. x .1) both) in
+        both-accepted (tablesOf (length buffer) sheet) (λ t. accepted (reportOf t)) r e λ t e1 k1.
+        let (admitted, written) = tables-admitted (length buffer) sheet t e1 in
+        (t, admitted, written, sym same ∙ sym (accepted-one k1))
+
+-- ---- priority rows in another order
+
+-- What the rules ask of a priority row's fields, and of the classes that it names
+abbrev formed : PriorityRow → Bool
+formed o = isClass (o .first) && isClass (o .second) && isFactor (o .factor)
+
+abbrev known : List ClassRow → PriorityRow → Bool
+known cs o = hasClass cs (o .first) && hasClass cs (o .second)
+
+-- The rules hold for a table exactly where both are so of each row, and there are at most 200
+down-allowed : (cs : List ClassRow) (above os : List PriorityRow) → T (holdDown (priorityRules cs) above os)
+    → every (λ o. formed o && known cs o) os ≡ true
+down-allowed cs above os h =
+    each-every (λ o. formed o && known cs o)
+    (each-holds (priorityRules cs) (λ o. (formed o && known cs o) ≡ true)
+    (λ above o h.
+    let six : T (formed o) = search tests in
+    let ten : T (known cs o) = search tests in
+    passes (formed o && known cs o) (together (formed o) (known cs o) six ten))
+    above os h)
+
+allowed-down : (cs : List ClassRow) (above os : List PriorityRow) → every (λ o. formed o && known cs o) os ≡ true
+    → length above + length os ≤ 200 → T (holdDown (priorityRules cs) above os)
+allowed-down cs above [] e few = tt
+allowed-down cs above (o ∷ os) e few =
+    let (here, below) = every-cons (λ o. formed o && known cs o) o os e in
+    let (six, ten) = both (formed o) (known cs o) here in
+    together (hold (priorityRules cs above o)) (holdDown (priorityRules cs) (o ∷ above) os)
+    (together (formed o) (ltb (length above) 200 && (known cs o && true)) (holds (formed o) six)
+    (together (ltb (length above) 200) (known cs o && true) (lt→ltb (length above) 200 (omega arith))
+    (together (known cs o) true (holds (known cs o) ten) tt)))
+    (allowed-down cs (o ∷ above) os below (omega arith))
+
+-- So another order of the rows is admitted
+reordered-admitted : (t : Tables) (os : List PriorityRow) → Reordered (Apart names) (t .priorities) os → Admitted t
+    → Admitted (withPriorities t os)
+reordered-admitted t os r (d, c, o, s, v) = (
+  d,
+  c,
+  allowed-down (t .classes) [] os (same-every (Apart names) (λ o. formed o && known (t .classes) o) r (down-allowed (t .classes) [] (t .priorities) o))
+      (omega (arith, same-length (Apart names) r, priorities-at-most (t .classes) (t .priorities) o)),
+  s,
+  v,
+)
+
+-- ... with the same report
+reordered-report : (t : Tables) (os : List PriorityRow) → Reordered (Apart names) (t .priorities) os
+    → reportOf (withPriorities t os) ≡ reportOf t
+unfolding reportOf currencyLines
+reordered-report t os r =
+    ap₂ (λ (vs : List Valued) (currency : List Valued → List Netted → Currency → Text).
+    joinedUp (map tradeLine vs)
+    ++ joinedUp (map (currency vs (map (nettedIn (t .classes) vs) (t .securities))) (currencies (t .securities))))
+    (ap (λ (n : ℕ). valuedFrom (day (t .date)) (t .securities) (3 + length (t .classes) + n + length (t .securities)) (t .trades))
+    (sym (same-length (Apart names) r)))
+    (fun-ext λ vs. fun-ext λ ns. fun-ext λ c.
+    ap (λ (b : Book).
+    joinedUp (map (classLine c b) (t .classes)) ++ currencyLine c (markIn c vs) (sum (map (marginOf b) (t .classes))))
+    (sym (same-offsets (t .priorities) os r (opening (only (λ n. same (n .currency) c) ns)))))
+
+-- Demand 3. Reorder an accepted sheet's priority rows so that each class still meets the rows that name it, the same rows
+-- in the same order: the new sheet is accepted, with the same report byte for byte. Each row takes as much off the longs
+-- as off the shorts, no position grows or falls below zero, and a class that no row names keeps both its positions.
+pub demand-3 : Demand3 kit
+demand-3 = (reordering, row-takes, rows-keep)
+  where
+    reordering : Reordering kit
+    reordering t admitted os same buffer bytes room report given =
+        let r = rows-reordered (t .priorities) os same in
+        let before = gives-answer (sheetOf t) buffer _ (answer-admitted (length buffer) t room admitted) in
+        let after =
+        gives-answer (sheetOf (withPriorities t os)) buffer _
+        (answer-admitted (length buffer) (withPriorities t os) room (reordered-admitted t os r admitted)
+        ∙ ap accepted (reordered-report t os r))
+        in
+        after ∙ sym before ∙ given
+
+    row-takes : RowTakes
+    row-takes o h b =
+        let factor : o .factor ≤ 10_000 = leb→le (o .factor) 10_000 h in (
+          row-conserves o factor b,
+          λ n. row-lowers o b n .0,
+          λ n. row-lowers o b n .1,
+          λ n m. taken-there (o .factor) n m b factor .0,
+          λ n m. taken-there (o .factor) n m b factor .1,
+        )

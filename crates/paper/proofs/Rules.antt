@@ -1,0 +1,216 @@
+-- What the rules of a row say, as facts: one record for each kind of row, and what then holds of a whole table.
+use Prim.Native.Nat.{ℕ, _+_, _-_, _≤_, _<_}
+use native.Mathlib.Omega.{arith}
+use mathlib.Core.Bool.{Bool, true, false, not, _&&_, _||_}
+use mathlib.Core.List.{List, [], _∷_}
+use mathlib.Core.Option.{Option, none, some, Option·getD}
+use mathlib.Core.Path.{_≡_, refl}
+use lib.Dec.{T, eqb, leb, ltb, leb→le, eqb→eq}
+use lib.IntN.{natAbs}
+use lib.ListN.{length}
+use Rattle.paper.specs.Units.{Date, Day, Duration, Payments, Rate}
+use Rattle.paper.specs.Days.{isDay, day}
+use Rattle.paper.specs.Lists.{given}
+use Rattle.paper.specs.Text.{isCode, isCurrency}
+use Rattle.paper.specs.Rows.{Kind, Trade, repo, cash, ClassRow, PriorityRow, SecurityRow, TradeRow}
+use Rattle.paper.specs.Valuation.{lastDay, margined, accrualDay, securityOf}
+use Rattle.paper.specs.Refusals.{Rule, isDuration, isTerm, tradeDates, inPeriod, dateRules, classRules, priorityRules, securityRules, tradeRules}
+use Rattle.paper.specs.Tables.{hold, holdDown}
+use Rattle.paper.proofs.Lists.{passes, holds, right, otherwise, tests, Each, nil, cons}
+
+-- A border or a duration that is there is 1 to 1,000,000 ten-thousandths of a year
+duration-facts : (kind : Kind) (o : Option Duration) → T (isDuration kind o)
+    → (d : Duration) → o ≡ some d → (1 ≤ d) × (d ≤ 1_000_000)
+duration-facts kind none h d e = let z : _≡_ {A = ℕ} 0 1 = cc in absurd (omega arith)
+duration-facts kind (some x) h d e = let s : x ≡ d = cc in rw s at (go x h)
+  where
+    go : (x : Duration) → T (isDuration kind (some x)) → (1 ≤ x) × (x ≤ 1_000_000)
+    go x h = search tests
+
+-- What the D row's rules say: a real day, and the last one that a calculation may be for
+pub record DateFacts (d : Date) : Type 0 where
+  pub real : isDay d ≡ true
+  pub high : d ≤ 23_991_220
+
+pub date-facts : (d : Date) → T (hold (dateRules d)) → DateFacts d
+date-facts d h = search tests
+
+-- What a C row's rules say of its fields. Border: ten-thousandths of a year; deposit factor: ten-thousandths
+pub record ClassFacts (c : ClassRow) : Type 0 where
+  pub low : 1 ≤ c .class
+  pub high : c .class ≤ 40
+  pub border : (d : Duration) → c .border ≡ some d → (1 ≤ d) × (d ≤ 1_000_000)
+  pub deposit : c .deposit ≤ 10_000
+
+pub class-facts : (above : List ClassRow) (c : ClassRow) → T (hold (classRules above c)) → ClassFacts c
+class-facts above c h = search (tests, duration-facts (c .kind) (c .border))
+
+-- What an O row's rules say of its fields. Factor: ten-thousandths
+pub record PriorityFacts (o : PriorityRow) : Type 0 where
+  pub first-low : 1 ≤ o .first
+  pub first-high : o .first ≤ 40
+  pub second-low : 1 ≤ o .second
+  pub second-high : o .second ≤ 40
+  pub factor : o .factor ≤ 10_000
+
+pub priority-facts : (cs : List ClassRow) (above : List PriorityRow) (o : PriorityRow)
+    → T (hold (priorityRules cs above o)) → PriorityFacts o
+priority-facts cs above o h = search tests
+
+-- Payments a year that are 1, 2 or 4 are 1 to 4
+payments-facts : (n : Payments) → T (eqb n 1 || eqb n 2 || eqb n 4) → (1 ≤ n) × (n ≤ 4)
+payments-facts n h = go (eqb n 1) refl (eqb n 2) refl h
+  where
+    go : (a : Bool) → eqb n 1 ≡ a → (b : Bool) → eqb n 2 ≡ b → T (a || b || eqb n 4) → (1 ≤ n) × (n ≤ 4)
+    go true e b k h = omega (arith, eqb→eq n 1 (holds (eqb n 1) e))
+    go false e true k h = omega (arith, eqb→eq n 2 (holds (eqb n 2) k))
+    go false e false k h = omega (arith, eqb→eq n 4 h)
+
+-- What an S row's rules say of its fields. Duration: ten-thousandths of a year; price and yearly coupon:
+-- hundred-thousandths of a percent; the coupon period: days
+pub record SecurityFacts (s : SecurityRow) : Type 0 where
+  pub code : isCode (s .code) ≡ true
+  pub currency : isCurrency (s .currency) ≡ true
+  pub duration : (d : Duration) → s .duration ≡ some d → (1 ≤ d) × (d ≤ 1_000_000)
+  pub price-low : 1 ≤ s .price
+  pub price-high : s .price ≤ 20_000_000
+  pub coupon : s .coupon ≤ 2_000_000
+  pub payments-low : 1 ≤ s .payments
+  pub payments-high : s .payments ≤ 4
+  pub previous : isDay (s .previous) ≡ true
+  pub next : isDay (s .next) ≡ true
+  pub period-low : 1 ≤ day (s .next) - day (s .previous)
+  pub period-high : day (s .next) - day (s .previous) ≤ 400
+
+pub security-facts : (cs : List ClassRow) (above : List SecurityRow) (s : SecurityRow)
+    → T (hold (securityRules cs above s)) → SecurityFacts s
+security-facts cs above s h =
+    let payments = payments-facts (s .payments) (search tests) in
+    record {
+      code = search tests;
+      currency = search tests depth 8;
+      duration = search (tests, duration-facts (s .kind) (s .duration));
+      price-low = search tests;
+      price-high = search tests;
+      coupon = search tests;
+      payments-low = payments .0;
+      payments-high = payments .1;
+      previous = search tests;
+      next = search tests;
+      period-low = search tests;
+      period-high = search tests;
+    }
+
+-- A rate that is there is at most 200,000 ten-thousandths of a percent in size
+rate-facts : (trade : Trade) (last : Option Date) (rate : Option Rate) → T (isTerm trade last rate)
+    → (r : Rate) → rate ≡ some r → natAbs r ≤ 200_000
+rate-facts cash last none h r e = let z : _≡_ {A = ℕ} 0 1 = cc in absurd (omega arith)
+rate-facts cash last (some x) h r e = absurd (right (not (given last)) false h)
+rate-facts repo last none h r e = absurd h
+rate-facts repo last (some x) h r e = let s : x ≡ r = cc in rw s at (leb→le (natAbs x) 200_000 h)
+
+-- A first date is a day
+first-facts : (trade : Trade) (first : Date) (last : Option Date) → T (tradeDates trade first last) → isDay first ≡ true
+first-facts cash first last h = passes (isDay first) h
+first-facts repo first none h = absurd h
+first-facts repo first (some x) h = search tests
+
+-- A last date that is there is a day
+last-facts : (trade : Trade) (first : Date) (last : Option Date) (rate : Option Rate)
+    → T (isTerm trade last rate) → T (tradeDates trade first last)
+    → (d : Date) → last ≡ some d → isDay d ≡ true
+last-facts cash first none rate f h d e = let z : _≡_ {A = ℕ} 0 1 = cc in absurd (omega arith)
+last-facts cash first (some x) rate f h d e = absurd f
+last-facts repo first none rate f h d e = absurd h
+last-facts repo first (some x) rate f h d e = let s : x ≡ d = cc in rw s at (go x h)
+  where
+    go : (x : Date) → T (tradeDates repo first (some x)) → isDay x ≡ true
+    go x h = search tests
+
+-- A repo's last day is 1 to 730 days after its first
+term-facts : (trade : Trade) (first : Date) (last : Option Date) → T (tradeDates trade first last) → trade ≡ repo
+    → (1 ≤ day (Option·getD last 0) - day first) × (day (Option·getD last 0) - day first ≤ 730)
+term-facts cash first last h e = let z : _≡_ {A = ℕ} 0 1 = cc in absurd (omega arith)
+term-facts repo first none h e = absurd h
+term-facts repo first (some x) h e = search tests
+
+-- What a T row's rules say of its fields. Nominal: whole units; amount: cents; rate: ten-thousandths of a percent;
+-- the term of a repo: days
+pub record TradeFacts (t : TradeRow) : Type 0 where
+  pub code : isCode (t .code) ≡ true
+  pub nominal-low : 1 ≤ t .nominal
+  pub nominal-high : t .nominal ≤ 100_000_000
+  pub amount-low : 1 ≤ t .amount
+  pub amount-high : t .amount ≤ 30_000_000_000
+  pub rate : (r : Rate) → t .rate ≡ some r → natAbs r ≤ 200_000
+  pub first : isDay (t .first) ≡ true
+  pub last : (d : Date) → t .last ≡ some d → isDay d ≡ true
+  pub term : t .trade ≡ repo → (1 ≤ lastDay t - day (t .first)) × (lastDay t - day (t .first) ≤ 730)
+
+pub trade-facts : (today : Day) (ss : List SecurityRow) (above : List TradeRow) (t : TradeRow)
+    → T (hold (tradeRules today ss above t)) → TradeFacts t
+trade-facts today ss above t h =
+    let form : T (isTerm (t .trade) (t .last) (t .rate)) = search tests in
+    let dates : T (tradeDates (t .trade) (t .first) (t .last)) = search tests in
+    record {
+      code = search tests;
+      nominal-low = search tests;
+      nominal-high = search tests;
+      amount-low = search tests;
+      amount-high = search tests;
+      rate = rate-facts (t .trade) (t .last) (t .rate) form;
+      first = first-facts (t .trade) (t .first) (t .last) dates;
+      last = last-facts (t .trade) (t .first) (t .last) (t .rate) form dates;
+      term = term-facts (t .trade) (t .first) (t .last) dates;
+    }
+
+-- The accrual day of a margined trade is at or after the previous coupon date and before the next
+pub in-period : (today : Day) (ss : List SecurityRow) (above : List TradeRow) (t : TradeRow)
+    → T (hold (tradeRules today ss above t))
+    → (s : SecurityRow) → securityOf ss (t .code) ≡ some s → margined today t ≡ true
+    → (day (s .previous) ≤ accrualDay today t) × (accrualDay today t < day (s .next))
+in-period today ss above t h s e m =
+    let period : T (inPeriod today t (securityOf ss (t .code))) = search tests in
+    let on = otherwise (margined today t) (within (accrualDay today t)) m (rw e at period) in
+    search tests
+  where
+    within : Day → Bool
+    within on = leb (day (s .previous)) on && ltb on (day (s .next))
+
+-- What the rules say of a row is so of each row of a table for which they hold
+pub each-holds : {R : Type 0} (rules : List R → R → List Rule) (P : R → Type 0)
+    → ((above : List R) (r : R) → T (hold (rules above r)) → P r)
+    → (above rs : List R) → T (holdDown rules above rs) → Each P rs
+each-holds rules P facts above [] h = nil
+each-holds rules P facts above (r ∷ rs) h =
+    cons (facts above r (search tests)) (each-holds rules P facts (r ∷ above) rs (search tests))
+
+-- Where each row has fewer than so many above it, a table has no more than so many
+pub at-most : {R : Type 0} (rules : List R → R → List Rule) (most : ℕ)
+    → ((above : List R) (r : R) → T (hold (rules above r)) → length above < most)
+    → (above rs : List R) → length above ≤ most → T (holdDown rules above rs) → length above + length rs ≤ most
+at-most rules most few above [] l h = omega arith
+at-most rules most few above (r ∷ rs) l h =
+    omega (arith, at-most rules most few (r ∷ above) rs (few above r (search tests)) (search tests))
+
+-- A sheet has at most 40 classes
+pub classes-at-most : (cs : List ClassRow) → T (holdDown classRules [] cs) → length cs ≤ 40
+classes-at-most cs h = omega (arith, at-most classRules 40 (λ above c h. search tests) [] cs (omega arith) h)
+
+-- ... at most 200 priority rows
+pub priorities-at-most : (cs : List ClassRow) (os : List PriorityRow)
+    → T (holdDown (priorityRules cs) [] os) → length os ≤ 200
+priorities-at-most cs os h =
+    omega (arith, at-most (priorityRules cs) 200 (λ above o h. search tests) [] os (omega arith) h)
+
+-- ... at most 200 securities
+pub securities-at-most : (cs : List ClassRow) (ss : List SecurityRow)
+    → T (holdDown (securityRules cs) [] ss) → length ss ≤ 200
+securities-at-most cs ss h =
+    omega (arith, at-most (securityRules cs) 200 (λ above s h. search tests) [] ss (omega arith) h)
+
+-- ... and at most 500 trades
+pub trades-at-most : (today : Day) (ss : List SecurityRow) (ts : List TradeRow)
+    → T (holdDown (tradeRules today ss) [] ts) → length ts ≤ 500
+trades-at-most today ss ts h =
+    omega (arith, at-most (tradeRules today ss) 500 (λ above t h. search tests) [] ts (omega arith) h)
