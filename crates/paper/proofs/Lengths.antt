@@ -22,7 +22,8 @@ use Rattle.paper.proofs.Digits.{digits-length, signed-length, date-eigh
 use Rattle.paper.proofs.Fields.{code-length, currency-length}
 use Rattle.paper.proofs.Currencies.{few-currencies, each-currency}
 use Rattle.paper.proofs.Rules.{DateFacts, ClassFacts, PriorityFacts, SecurityFacts, TradeFacts}
-use Rattle.paper.proofs.Bounds.{mostMarkSum, mostInitial, ValuedFacts, margined-facts, table-facts, BookFacts, margin-most, total-most, netsIn, remainingIn, currency-facts}
+use Rattle.paper.proofs.Bounds.{mostMarkSum, mostInitial, ValuedFacts}
+use Rattle.paper.proofs.Totals.{margined-facts, table-facts, BookFacts, margin-most, total-most, netsIn, remainingIn, currency-facts}
 
 -- Fields parted by a mark, with one more mark behind them, have the fields' bytes and one more for each
 parted-length : (mark : Byte) (f : Text) (fs : Fields)

@@ -16,5 +16,6 @@ pub mod Refusals
 pub mod Reordering
 pub mod Offsetting
 pub mod Bounds
+pub mod Totals
 pub mod Lengths
 pub mod Demands
