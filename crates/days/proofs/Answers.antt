@@ -1,4 +1,4 @@
--- What a caller learns from an answer of `day_of` or `date_at`: what the paper's definition gave.
+-- What a caller learns from an answer of `day_of`: what the paper's definition gave.
 use Prim.Native.Nat.{ℕ}
 use native.Mathlib.Omega.{arith}
 use mathlib.Core.Option.{Option, none, some}

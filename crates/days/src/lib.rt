@@ -5,10 +5,9 @@ pub use table::new_years;
 ghost use mathlib.Core.Bool.{true};
 ghost use mathlib.Core.Path.{_≡_};
 ghost use Prim.Native.Nat.{_+_, _*_, _/_, _≤_, _<_};
-ghost use lib.ListN.{take, drop, getD};
+ghost use lib.ListN.{take, getD};
 ghost use Rattle.paper.specs.Lists.{sum};
 ghost use Rattle.paper.specs.Days.{leap, newYears, monthDays, isReal, dayIn, dayOf, weekday, isOpen, workingAfter};
-ghost use Rattle.paper.specs.Text.{dateIn};
 ghost use Rattle.days.specs.Dated.{dated};
 
 pub type Date = u64; // eight digits as one number
@@ -22,8 +21,6 @@ pub type Month = u64; // of a year, from 0
 pub type Days = u64; // a number of days
 
 pub type DayOfWeek = u64; // 0 for Monday to 6 for Sunday
-
-pub type Place = usize; // in a text, in bytes from its start
 
 // What a date is: a day, or nothing where there is no such day of 2000 to 2399.
 pub enum Dated {
@@ -114,40 +111,6 @@ pub fn day_of(years: &[Day; 400], date: Date) -> Dated
     } else {
         Dated::Nothing
     }
-}
-
-// Eight digits as one number; 0, which is no date, for anything else.
-fn eight_digits(s: &[u8], at: Place) -> Date
-    ensures { λ r. ⌜ r ≡ dateIn (take 8 (drop at (now (s .entry)))) ⌝ }
-{
-    if s.len() < at {
-        return 0;
-    }
-    if s.len() - at < 8 {
-        return 0;
-    }
-    let mut n: Date = 0;
-    let mut i: usize = 0; // digits read
-    while i < 8 {
-        let b = s[at + i] as u64; // a byte
-        if b < 48 {
-            return 0;
-        }
-        if 57 < b {
-            return 0;
-        }
-        n = 10 * n + (b - 48);
-        i += 1;
-    }
-    n
-}
-
-// The day of the date that the eight bytes at a place of a text are.
-pub fn date_at(years: &[Day; 400], s: &[u8], at: Place) -> Dated
-    requires { ⌜ now years ≡ newYears ⌝ }
-    ensures { λ r. ⌜ r ≡ dated (dayOf (dateIn (take 8 (drop at (now (s .entry)))))) ⌝ }
-{
-    day_of(years, eight_digits(s, at))
 }
 
 // The weekday: 1 January 2000 was a Saturday.

@@ -95,7 +95,7 @@ linesOf-cons p [] h = never h
 linesOf-cons p (q ∷ ps) h = refl
 
 -- A line that is written before a text is the first line of the whole
-line-first : (fs : Fields) (t : Text) → proper fs ≡ true → lines (lineOf fs ++ t) ≡ fs ∷ lines t
+pub line-first : (fs : Fields) (t : Text) → proper fs ≡ true → lines (lineOf fs ++ t) ≡ fs ∷ lines t
 unfolding lines
 line-first fs t h =
     let p = parted semicolon fs in

@@ -1,0 +1,5 @@
+pub mod Answers
+pub mod Parts
+pub mod Letters
+pub mod Orders
+pub mod Places

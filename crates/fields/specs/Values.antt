@@ -1,0 +1,69 @@
+-- What stands in a field, as the code holds it: the paper's reading with the range that the rules ask for.
+use Prim.Native.Nat.{ℕ}
+use mathlib.Core.Bool.{Bool, true, false, cond, _||_}
+use mathlib.Core.List.{[], _∷_}
+use mathlib.Core.Option.{Option, none, some, Option·map}
+use lib.Dec.{eqb}
+use lib.IntN.{ℤ}
+use Rattle.paper.specs.Units.{Byte, Text, Duration, Rate}
+use Rattle.paper.specs.Lists.{between, every, when, _>>=_}
+use Rattle.paper.specs.Text.{same, before, isDigit, isLetter, decimal, numberIn, signedIn}
+use Rattle.paper.specs.Rows.{Kind, government, corporate, inflation, floating, Trade, repo, cash, Side, seller, purchaser, kindIn, tradeIn, sideIn}
+use Rattle.paper.specs.Refusals.{isRate}
+use Rattle.fields.specs.declared.Value.{Value}
+use Rattle.fields.specs.declared.Value.the-variants as values
+use Rattle.fields.specs.declared.Signed.{Signed}
+use Rattle.fields.specs.declared.Signed.the-variants as signs
+use Rattle.fields.specs.declared.Order.{Order}
+use Rattle.fields.specs.declared.Order.the-variants as orders
+
+-- A number, or none
+abbrev pub value : Option ℕ → Value
+value none = values.Not
+value (some n) = values.Is n
+
+-- A signed number, or none
+abbrev pub signed : Option ℤ → Signed
+signed none = signs.Not
+signed (some z) = signs.Is z
+
+-- Digits of any kind, leading zeros too, as the number that they mean
+abbrev pub digitsIn : Text → Option ℕ
+digitsIn t = when (every isDigit t) (decimal 0 t)
+
+-- A number from a lowest to a highest
+abbrev pub rangedIn : ℕ → ℕ → Text → Option ℕ
+rangedIn lowest highest t = numberIn t >>= λ n. when (between lowest highest n) n
+
+-- A rate within its range: ten-thousandths of a percent
+abbrev pub rateIn : Text → Option Rate
+rateIn t = signedIn t >>= λ r. when (isRate r) r
+
+-- A border or duration, ten-thousandths of a year: 1..1,000,000 for a kind that has one; blank, and then 0, for one that has none
+abbrev pub durationIn : Bool → Text → Option Duration
+durationIn true t = rangedIn 1 1_000_000 t
+durationIn false [] = some 0
+durationIn false (b ∷ t) = none
+
+-- Kinds, trades and sides by their numbers in the code
+abbrev pub kindNumber : Kind → ℕ
+kindNumber government = 0
+kindNumber corporate = 1
+kindNumber inflation = 2
+kindNumber floating = 3
+
+abbrev pub tradeNumber : Trade → ℕ
+tradeNumber repo = 0
+tradeNumber cash = 1
+
+abbrev pub sideNumber : Side → ℕ
+sideNumber seller = 0
+sideNumber purchaser = 1
+
+-- The sets of bytes that a code and a currency are made of, by their numbers in the code: letters, digits, both
+abbrev pub inSet : ℕ → Byte → Bool
+inSet set b = cond (eqb set 0) (isLetter b) (cond (eqb set 1) (isDigit b) (isLetter b || isDigit b))
+
+-- How two texts stand to each other, by bytes
+abbrev pub orderOf : Text → Text → Order
+orderOf s t = elim (same s t) [ true ↦ orders.Same | false ↦ elim (before s t) [ true ↦ orders.Before | false ↦ orders.After ] ]

@@ -1,0 +1,350 @@
+// Lines, fields, and what stands in a field: the bytes of a lent sheet, by their places.
+// A field is the bytes from a place up to another; a line is looked through once, for where its fields end.
+ghost use mathlib.Core.Path.{_≡_};
+ghost use Prim.Native.Nat.{_+_, _-_, _≤_, _<_};
+ghost use mathlib.Core.Bool.{true};
+ghost use mathlib.Core.Option.{Option·map};
+ghost use lib.ListN.{length, getD};
+ghost use lib.Seq.{slice};
+ghost use Rattle.paper.specs.Lists.{between, every};
+ghost use Rattle.paper.specs.Text.{LF, numberIn, dateIn, isCode, isCurrency};
+ghost use Rattle.paper.specs.Rows.{kindIn, tradeIn, sideIn};
+ghost use Rattle.fields.specs.Values.{value, signed, digitsIn, rangedIn, rateIn, durationIn, kindNumber, tradeNumber, sideNumber, inSet, orderOf};
+ghost use Rattle.fields.specs.Places.{endedLength, lineAt};
+
+pub type Place = usize; // in the sheet, in bytes from its start
+
+pub type Date = u64; // eight digits as one number
+
+// What a field reads as: a number of the field's unit, or nothing that it may be.
+pub enum Value {
+    Is(u64),
+    Not,
+}
+
+// The same of a signed number.
+pub enum Signed {
+    Is(i64),
+    Not,
+}
+
+// How two texts stand to each other, by bytes.
+pub enum Order {
+    Before,
+    Same,
+    After,
+}
+
+// A line: its number of fields, where the first ten end, and where the next line starts.
+pub struct Line {
+    pub count: usize, // fields
+    pub ends: [Place; 10],
+    pub next: Place,
+}
+
+// The place behind the last LF: each line that starts before it has its LF.
+pub fn ended(s: &[u8]) -> Place
+    ensures { λ r. ⌜ r ≡ endedLength (now (s .entry)) ⌝ }
+{
+    let mut n: Place = s.len();
+    while 0 < n {
+        if s[n - 1] == 10 {
+            return n;
+        }
+        n -= 1;
+    }
+    0
+}
+
+// The line that starts at a place. An LF stands right before `end`, so that the line has one.
+pub fn line_at(s: &[u8], at: Place, end: Place) -> Line
+    requires { ⌜ (at < end) × (end ≤ length (now s)) × (getD (now s) (end - 1) 0 ≡ LF) ⌝ }
+    ensures { λ r. ⌜ r ≡ lineAt (now (s .entry)) at ⌝ }
+{
+    let mut ends: [Place; 10] = [0; 10];
+    let mut count: usize = 0; // fields that ended
+    let mut i: Place = at;
+    loop {
+        let b = s[i]; // a byte
+        if b == 10 {
+            break;
+        }
+        if b == 59 {
+            if count < 10 {
+                ends[count] = i;
+            }
+            count += 1;
+        }
+        i += 1;
+    }
+    if count < 10 {
+        ends[count] = i;
+    }
+    Line {
+        count: count + 1,
+        ends: ends,
+        next: i + 1,
+    }
+}
+
+// Digits as the number that they mean; at most 19, so that it fits.
+fn digits_in(s: &[u8], at: Place, end: Place) -> Value
+    requires { ⌜ (at ≤ end) × (end ≤ length (now s)) × (end ≤ at + 19) ⌝ }
+    ensures { λ r. ⌜ r ≡ value (digitsIn (slice at end (now (s .entry)))) ⌝ }
+{
+    let mut n: u64 = 0; // any unit
+    let mut i: Place = at;
+    while i < end {
+        let b = s[i] as u64; // a byte
+        if b < 48 {
+            return Value::Not;
+        }
+        if 57 < b {
+            return Value::Not;
+        }
+        n = 10 * n + (b - 48);
+        i += 1;
+    }
+    Value::Is(n)
+}
+
+// A number: digits with no leading zero.
+fn number_in(s: &[u8], at: Place, end: Place) -> Value
+    requires { ⌜ (at ≤ end) × (end ≤ length (now s)) ⌝ }
+    ensures { λ r. ⌜ r ≡ value (numberIn (slice at end (now (s .entry)))) ⌝ }
+{
+    let size = end - at; // bytes
+    if size == 0 {
+        return Value::Not;
+    }
+    if 19 < size {
+        return Value::Not;
+    }
+    if 1 < size {
+        if s[at] == 48 {
+            return Value::Not;
+        }
+    }
+    digits_in(s, at, end)
+}
+
+// A number from a lowest to a highest.
+pub fn ranged_in(
+    s: &[u8],
+    at: Place,
+    end: Place,
+    lowest: u64, // the field's unit
+    highest: u64, // the field's unit
+) -> Value
+    requires { ⌜ (at ≤ end) × (end ≤ length (now s)) ⌝ }
+    ensures { λ r. ⌜ r ≡ value (rangedIn lowest highest (slice at end (now (s .entry)))) ⌝ }
+{
+    let Value::Is(n) = number_in(s, at, end) else {
+        return Value::Not;
+    };
+    if n < lowest {
+        return Value::Not;
+    }
+    if highest < n {
+        return Value::Not;
+    }
+    Value::Is(n)
+}
+
+// A rate: a number in its range that may have `-` before it.
+pub fn rate_in(s: &[u8], at: Place, end: Place) -> Signed
+    requires { ⌜ (at ≤ end) × (end ≤ length (now s)) ⌝ }
+    ensures { λ r. ⌜ r ≡ signed (rateIn (slice at end (now (s .entry)))) ⌝ }
+{
+    if end == at {
+        return Signed::Not;
+    }
+    if s[at] == 45 {
+        let Value::Is(n) = ranged_in(s, at + 1, end, 1, 200_000) else {
+            return Signed::Not;
+        };
+        Signed::Is(whole::negative(n))
+    } else {
+        let Value::Is(n) = ranged_in(s, at, end, 0, 200_000) else {
+            return Signed::Not;
+        };
+        Signed::Is(whole::positive(n))
+    }
+}
+
+// A border or duration, ten-thousandths of a year: a number for a kind that has one, blank for a kind that has none.
+pub fn duration_in(s: &[u8], at: Place, end: Place, has: bool) -> Value
+    requires { ⌜ (at ≤ end) × (end ≤ length (now s)) ⌝ }
+    ensures { λ r. ⌜ r ≡ value (durationIn has (slice at end (now (s .entry)))) ⌝ }
+{
+    if has {
+        return ranged_in(s, at, end, 1, 1_000_000);
+    }
+    if end == at { Value::Is(0) } else { Value::Not }
+}
+
+// A date's eight digits; 0, which is no date, for anything else.
+pub fn date_in(s: &[u8], at: Place, end: Place) -> Date
+    requires { ⌜ (at ≤ end) × (end ≤ length (now s)) ⌝ }
+    ensures { λ r. ⌜ r ≡ dateIn (slice at end (now (s .entry))) ⌝ }
+{
+    if end - at != 8 {
+        return 0;
+    }
+    let Value::Is(n) = digits_in(s, at, end) else {
+        return 0;
+    };
+    n
+}
+
+// A kind's number by its letter: 0 government, 1 corporate, 2 inflation linked, 3 floating.
+pub fn kind_in(s: &[u8], at: Place, end: Place) -> Value
+    requires { ⌜ (at ≤ end) × (end ≤ length (now s)) ⌝ }
+    ensures { λ r. ⌜ r ≡ value (Option·map kindNumber (kindIn (slice at end (now (s .entry))))) ⌝ }
+{
+    if end - at != 1 {
+        return Value::Not;
+    }
+    let b = s[at]; // a byte
+    if b == 71 {
+        return Value::Is(0);
+    }
+    if b == 67 {
+        return Value::Is(1);
+    }
+    if b == 73 {
+        return Value::Is(2);
+    }
+    if b == 70 {
+        return Value::Is(3);
+    }
+    Value::Not
+}
+
+// A trade's number by its letter: 0 repo, 1 cash.
+pub fn trade_in(s: &[u8], at: Place, end: Place) -> Value
+    requires { ⌜ (at ≤ end) × (end ≤ length (now s)) ⌝ }
+    ensures { λ r. ⌜ r ≡ value (Option·map tradeNumber (tradeIn (slice at end (now (s .entry))))) ⌝ }
+{
+    if end - at != 1 {
+        return Value::Not;
+    }
+    let b = s[at]; // a byte
+    if b == 82 {
+        return Value::Is(0);
+    }
+    if b == 67 {
+        return Value::Is(1);
+    }
+    Value::Not
+}
+
+// A side's number by its letter: 0 seller, 1 purchaser.
+pub fn side_in(s: &[u8], at: Place, end: Place) -> Value
+    requires { ⌜ (at ≤ end) × (end ≤ length (now s)) ⌝ }
+    ensures { λ r. ⌜ r ≡ value (Option·map sideNumber (sideIn (slice at end (now (s .entry))))) ⌝ }
+{
+    if end - at != 1 {
+        return Value::Not;
+    }
+    let b = s[at]; // a byte
+    if b == 83 {
+        return Value::Is(0);
+    }
+    if b == 80 {
+        return Value::Is(1);
+    }
+    Value::Not
+}
+
+// Whether a byte is from a lowest to a highest.
+fn is_within(b: u8, lowest: u8, highest: u8) -> bool
+    ensures { λ r. ⌜ r ≡ between lowest highest b ⌝ }
+{
+    lowest <= b && b <= highest
+}
+
+// Whether a byte is of a set: 0 letters, 1 digits, 2 both.
+fn in_set(b: u8, set: u64) -> bool
+    requires { ⌜ set < 3 ⌝ }
+    ensures { λ r. ⌜ r ≡ inSet set b ⌝ }
+{
+    if set == 0 {
+        return is_within(b, 65, 90);
+    }
+    if set == 1 {
+        return is_within(b, 48, 57);
+    }
+    is_within(b, 65, 90) || is_within(b, 48, 57)
+}
+
+// Whether all bytes are of a set.
+fn all_in(s: &[u8], at: Place, end: Place, set: u64) -> bool
+    requires { ⌜ (at ≤ end) × (end ≤ length (now s)) × (set < 3) ⌝ }
+    ensures { λ r. ⌜ r ≡ every (inSet set) (slice at end (now (s .entry))) ⌝ }
+{
+    let mut i: Place = at;
+    while i < end {
+        if in_set(s[i], set) {
+            i += 1;
+        } else {
+            return false;
+        }
+    }
+    true
+}
+
+// Whether a field is a code: two letters, nine letters or digits, one digit.
+pub fn is_code(s: &[u8], at: Place, end: Place) -> bool
+    requires { ⌜ (at ≤ end) × (end ≤ length (now s)) ⌝ }
+    ensures { λ r. ⌜ r ≡ isCode (slice at end (now (s .entry))) ⌝ }
+{
+    if end - at != 12 {
+        return false;
+    }
+    if all_in(s, at, at + 2, 0) {
+        if all_in(s, at + 2, at + 11, 2) {
+            all_in(s, at + 11, end, 1)
+        } else {
+            false
+        }
+    } else {
+        false
+    }
+}
+
+// Whether a field is a currency: three letters.
+pub fn is_currency(s: &[u8], at: Place, end: Place) -> bool
+    requires { ⌜ (at ≤ end) × (end ≤ length (now s)) ⌝ }
+    ensures { λ r. ⌜ r ≡ isCurrency (slice at end (now (s .entry))) ⌝ }
+{
+    if end - at != 3 {
+        return false;
+    }
+    all_in(s, at, end, 0)
+}
+
+// How so many bytes at one place stand to those at another.
+pub fn compare(
+    s: &[u8],
+    a: Place,
+    b: Place,
+    size: usize, // bytes
+) -> Order
+    requires { ⌜ (a + size ≤ length (now s)) × (b + size ≤ length (now s)) ⌝ }
+    ensures { λ r. ⌜ r ≡ orderOf (slice a (a + size) (now (s .entry))) (slice b (b + size) (now (s .entry))) ⌝ }
+{
+    let mut i: usize = 0; // bytes that are the same
+    while i < size {
+        let x = s[a + i]; // a byte
+        let y = s[b + i]; // a byte
+        if x < y {
+            return Order::Before;
+        }
+        if y < x {
+            return Order::After;
+        }
+        i += 1;
+    }
+    Order::Same
+}
