@@ -22,10 +22,10 @@ use Rattle.paper.proofs.Order.{same-true, same-refl, before-trans, befo
 placed-there : (c d : Currency) (ds : List Currency) → c ≡ d → placed c (d ∷ ds) ≡ d ∷ ds
 placed-there c d ds e = rw (ap (same c) (sym e) ∙ same-refl c, placed)
 
-placed-first : (c d : Currency) (ds : List Currency) → before c d ≡ true → placed c (d ∷ ds) ≡ c ∷ d ∷ ds
+pub placed-first : (c d : Currency) (ds : List Currency) → before c d ≡ true → placed c (d ∷ ds) ≡ c ∷ d ∷ ds
 placed-first c d ds e = rw (before-not-same c d e, e, placed)
 
-placed-on : (c d : Currency) (ds : List Currency) → before d c ≡ true → placed c (d ∷ ds) ≡ d ∷ placed c ds
+pub placed-on : (c d : Currency) (ds : List Currency) → before d c ≡ true → placed c (d ∷ ds) ≡ d ∷ placed c ds
 placed-on c d ds e = rw (after-not-same c d e, before-not-after d c e, placed)
 
 -- ---- two currencies may be placed in either order
@@ -87,13 +87,13 @@ currencies-last (r ∷ ss) s =
     ap (placed (r .currency)) (currencies-last ss s) ∙ placed-commutes (r .currency) (s .currency) (currencies ss)
 
 -- Rows in the reverse order have the same currencies
-currencies-reverse : (ss : List SecurityRow) → currencies (reverse ss) ≡ currencies ss
+pub currencies-reverse : (ss : List SecurityRow) → currencies (reverse ss) ≡ currencies ss
 currencies-reverse [] = refl
 currencies-reverse (s ∷ ss) =
     ap currencies (reverse-cons s ss) ∙ currencies-last (reverse ss) s ∙ ap (placed (s .currency)) (currencies-reverse ss)
 
 -- A currency that a row has is there
-has-currency : (ss : List SecurityRow) (c : Currency) → hasCurrency ss c ≡ true → placed c (currencies ss) ≡ currencies ss
+pub has-currency : (ss : List SecurityRow) (c : Currency) → hasCurrency ss c ≡ true → placed c (currencies ss) ≡ currencies ss
 has-currency [] c e = never e
 has-currency (s ∷ ss) c e = go (same (s .currency) c) refl (has-currency ss c)
   where

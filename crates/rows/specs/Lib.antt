@@ -1,0 +1,5 @@
+pub mod Fields
+pub mod Held
+pub mod Terms
+pub mod Reads
+pub mod Sections

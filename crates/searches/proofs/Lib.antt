@@ -1,0 +1,4 @@
+pub mod Places
+pub mod Ranks
+pub mod Codes
+pub mod Rules

@@ -1,0 +1,141 @@
+// What is looked for among rows above: a class by kind and border, a currency and a code by their bytes, at their places.
+use fields::Order;
+use fields::Place;
+use fields::Value;
+ghost use mathlib.Core.Path.{_≡_};
+ghost use Prim.Native.Nat.{_+_, _≤_, _<_};
+ghost use lib.ListN.{length, take};
+ghost use Rattle.fields.specs.Values.{value};
+ghost use Rattle.searches.specs.Searches.{Within, Rising, classPlace, rankedOf, insertedAt, risesOver, placeIn};
+
+// The currencies of rows: a place for each where it stands, rising by bytes.
+pub struct Currencies {
+    pub count: usize, // currencies
+    pub places: [Place; 8],
+}
+
+// Where a currency stands among the rising ones, or would stand.
+pub struct Standing {
+    pub rank: usize, // currencies before it
+    pub there: bool,
+}
+
+// The place in the table of the first class of a kind whose border is not below a duration.
+pub fn class_of(
+    kinds: &[u64; 40], // by their numbers
+    borders: &[u64; 40], // ten-thousandths of a year
+    count: usize, // classes
+    kind: u64, // by its number
+    duration: u64, // ten-thousandths of a year
+) -> Value
+    requires { ⌜ count ≤ 40 ⌝ }
+    ensures { λ r. ⌜ r ≡ value (classPlace (take count (now (kinds .entry))) (take count (now (borders .entry))) kind duration) ⌝ }
+{
+    let kinds: &[u64] = kinds; // as a slice: a proof is told its length
+    let borders: &[u64] = borders;
+    let mut i: usize = 0; // classes
+    while i < count {
+        if kinds[i] == kind {
+            if duration <= borders[i] {
+                return Value::Is(i as u64);
+            }
+        }
+        i += 1;
+    }
+    Value::Not
+}
+
+// Where the currency at a place stands among rising ones: behind those that come before it.
+pub fn ranked(s: &[u8], currencies: &[Place; 8], count: usize, at: Place) -> Standing
+    requires { ⌜ (count ≤ 8) × Within 3 (now s) (take count (now currencies)) × (at + 3 ≤ length (now s)) ⌝ }
+    ensures { λ r. ⌜ r ≡ rankedOf (now (s .entry)) (take count (now (currencies .entry))) at ⌝ }
+{
+    let currencies: &[Place] = currencies; // as a slice: a proof is told its length
+    let mut i: usize = 0; // currencies
+    while i < count {
+        let order = fields::compare(s, currencies[i], at, 3);
+        match order {
+            Order::Before => {
+                i += 1;
+            }
+            Order::Same => {
+                return Standing {
+                    rank: i,
+                    there: true,
+                };
+            }
+            Order::After => {
+                return Standing {
+                    rank: i,
+                    there: false,
+                };
+            }
+        }
+    }
+    Standing {
+        rank: count,
+        there: false,
+    }
+}
+
+// Rising currencies with one more at its rank, where there are fewer than eight.
+pub fn with_currency(currencies: Currencies, rank: usize, at: Place) -> Currencies
+    requires { ⌜ (currencies .count < 8) × (rank ≤ currencies .count) ⌝ }
+    ensures { λ r. ⌜ r ≡ insertedAt currencies rank at ⌝ }
+{
+    let mut places = currencies.places;
+    let count = currencies.count;
+    let mut i: usize = count;
+    while rank < i {
+        places[i] = places[i - 1];
+        i -= 1;
+    }
+    places[rank] = at;
+    Currencies {
+        count: count + 1,
+        places: places,
+    }
+}
+
+// Whether the code at a place comes after the last of the codes above.
+pub fn rises(s: &[u8], codes: &[Place; 200], count: usize, code: Place) -> bool
+    requires { ⌜ (count ≤ 200) × Within 12 (now s) (take count (now codes)) × (code + 12 ≤ length (now s)) ⌝ }
+    ensures { λ r. ⌜ r ≡ risesOver (now (s .entry)) (take count (now (codes .entry))) code ⌝ }
+{
+    if count == 0 {
+        return true;
+    }
+    let codes: &[Place] = codes; // as a slice: a proof is told its length
+    let order = fields::compare(s, codes[count - 1], code, 12);
+    match order {
+        Order::Before => true,
+        Order::Same => false,
+        Order::After => false,
+    }
+}
+
+// The place of a code among rising ones, by bisection; as many as there are where it is not there.
+pub fn find(s: &[u8], codes: &[Place; 200], count: usize, code: Place) -> usize
+    requires { ⌜ (count ≤ 200) × Within 12 (now s) (take count (now codes)) × (code + 12 ≤ length (now s)) × Rising (now s) (take count (now codes)) ⌝ }
+    ensures { λ r. ⌜ r ≡ placeIn (now (s .entry)) (take count (now (codes .entry))) code ⌝ }
+{
+    let codes: &[Place] = codes; // as a slice: a proof is told its length
+    let mut low: usize = 0; // the codes before it come before the code
+    let mut high: usize = count; // the codes from it on come after the code
+    while low < high {
+        let middle = low + (high - low) / 2;
+        let order = fields::compare(s, codes[middle], code, 12);
+        match order {
+            Order::Before => {
+                low = middle + 1;
+            }
+            Order::Same => {
+                return middle;
+            }
+            Order::After => {
+                high = middle;
+            }
+        }
+    }
+    count
+}
