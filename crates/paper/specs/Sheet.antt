@@ -67,13 +67,18 @@ endRules rest = (5, eqb (length (rest .1)) 0) ∷ []
 abbrev pub ended : {A : Type 0} → A → Rest → Outcome A
 ended a rest = judged (rest .0) a (endRules rest)
 
--- The tables of a sheet, or its refusal
-unfoldable pub readSheet : Text → Outcome Tables
-readSheet sheet = do
-  rows ← header sheet
-  (date, rows) ← dateRow rows
+-- The tables behind the D row: the sections in their order, and no line behind them
+abbrev pub readTables : Date → Rest → Outcome Tables
+readTables date rows = do
   (cs, rows) ← section (ascii "C") 5 readClass classRules rows
   (os, rows) ← section (ascii "O") 4 readPriority (priorityRules cs) rows
   (ss, rows) ← section (ascii "S") 10 readSecurity (securityRules cs) rows
   (ts, rows) ← section (ascii "T") 9 readTrade (tradeRules (day date) ss) rows
   ended (record { date = date; classes = cs; priorities = os; securities = ss; trades = ts }) rows
+
+-- The tables of a sheet, or its refusal
+unfoldable pub readSheet : Text → Outcome Tables
+readSheet sheet = do
+  rows ← header sheet
+  (date, rows) ← dateRow rows
+  readTables date rows

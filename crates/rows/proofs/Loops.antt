@@ -261,7 +261,7 @@ module _ {R H : Type 0} (sheet : Text) (letter : Byte) (many : ℕ) (read : Fiel
     pub within : at ≤ endedLength sheet
 
   -- At the start
-  pub going-start : from ≤ endedLength sheet → Going (replicate most empty) 0 from
+  unfoldable pub going-start : from ≤ endedLength sheet → Going (replicate most empty) 0 from
   going-start h =
       record {
         above = [];
@@ -272,9 +272,14 @@ module _ {R H : Type 0} (sheet : Text) (letter : Byte) (many : ℕ) (read : Fiel
         within = h;
       }
 
+  -- ... with no row above
+  pub going-start-above : (h : from ≤ endedLength sheet) → going-start h .above ≡ []
+  unfolding going-start
+  going-start-above h = refl
+
   module _ {rows : List H} {count : ℕ} {at : Place} (g : Going rows count at) where
     -- A line that the section takes
-    taken-line : goesOn sheet at (endedLength sheet) letter ≡ true
+    pub taken-line : goesOn sheet at (endedLength sheet) letter ≡ true
         → (lines (drop at sheet) ≡ fieldsAt sheet at ∷ lines (drop (lineAt sheet at .next) sheet)) × (begins (letter ∷ []) (fieldsAt sheet at) ≡ true)
         × (lineAt sheet at .next ≤ endedLength sheet)
     taken-line e =
@@ -284,7 +289,7 @@ module _ {R H : Type 0} (sheet : Text) (letter : Byte) (many : ℕ) (read : Fiel
         (l .read ∙ ap (λ (fs : Fields). fs ∷ lines (drop (lineAt sheet at .next) sheet)) (sym first), t .1, l .most)
 
     -- A row more
-    pub going-on : goesOn sheet at (endedLength sheet) letter ≡ true → (r : R) → judge (g .above) count (fieldsAt sheet at) ≡ accepted r
+    unfoldable pub going-on : goesOn sheet at (endedLength sheet) letter ≡ true → (r : R) → judge (g .above) count (fieldsAt sheet at) ≡ accepted r
         → count < most → Going (set rows count (held at r)) (count + 1) (lineAt sheet at .next)
     unfolding rowsFrom
     going-on e r j l =
@@ -299,6 +304,12 @@ module _ {R H : Type 0} (sheet : Text) (letter : Byte) (many : ℕ) (read : Fiel
               ∙ ap (nextAfter sheet from) (sym (add-one count));
           within = most-next;
         }
+
+    -- ... above those that were there
+    pub going-on-above : (e : goesOn sheet at (endedLength sheet) letter ≡ true) (r : R) (j : judge (g .above) count (fieldsAt sheet at) ≡ accepted r)
+        (l : count < most) → going-on e r j l .above ≡ r ∷ g .above
+    unfolding going-on
+    going-on-above e r j l = refl
 
     -- A row that is refused refuses the section
     pub going-refused : goesOn sheet at (endedLength sheet) letter ≡ true → (number : ℕ) (line : Line)
