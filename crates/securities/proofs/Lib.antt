@@ -1,0 +1,3 @@
+pub mod Judging
+pub mod Facts
+pub mod Turns
