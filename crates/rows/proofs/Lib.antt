@@ -6,3 +6,4 @@ pub mod Steps
 pub mod Shapes
 pub mod Loops
 pub mod Texts
+pub mod Columns
