@@ -30,6 +30,7 @@ afterOf seen class kind border = record { last = class; least = set (seen .least
 abbrev pub rowFits : Seen → ClassRow → Bool
 rowFits seen c = fitsOf seen (c .class) (kindNumber (c .kind)) (borderNumber c)
 
+-- What is told with a row more
 abbrev pub afterRow : Seen → ClassRow → Seen
 afterRow seen c = afterOf seen (c .class) (kindNumber (c .kind)) (borderNumber c)
 

@@ -52,10 +52,12 @@ kindNumber corporate = 1
 kindNumber inflation = 2
 kindNumber floating = 3
 
+-- A kind of trade by its number
 abbrev pub tradeNumber : Trade → ℕ
 tradeNumber repo = 0
 tradeNumber cash = 1
 
+-- A side by its number
 abbrev pub sideNumber : Side → ℕ
 sideNumber seller = 0
 sideNumber purchaser = 1

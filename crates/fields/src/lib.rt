@@ -258,14 +258,21 @@ pub fn side_in(s: &[u8], at: Place, end: Place) -> Value
 }
 
 // Whether a byte is from a lowest to a highest.
-fn is_within(b: u8, lowest: u8, highest: u8) -> bool
+fn is_within(
+    b: u8, // a byte
+    lowest: u8, // a byte
+    highest: u8, // a byte
+) -> bool
     ensures { λ r. ⌜ r ≡ between lowest highest b ⌝ }
 {
     lowest <= b && b <= highest
 }
 
 // Whether a byte is of a set: 0 letters, 1 digits, 2 both.
-fn in_set(b: u8, set: u64) -> bool
+fn in_set(
+    b: u8, // a byte
+    set: u64, // 0 to 2
+) -> bool
     requires { ⌜ set < 3 ⌝ }
     ensures { λ r. ⌜ r ≡ inSet set b ⌝ }
 {
@@ -279,7 +286,12 @@ fn in_set(b: u8, set: u64) -> bool
 }
 
 // Whether all bytes are of a set.
-fn all_in(s: &[u8], at: Place, end: Place, set: u64) -> bool
+fn all_in(
+    s: &[u8],
+    at: Place,
+    end: Place,
+    set: u64, // 0 to 2
+) -> bool
     requires { ⌜ (at ≤ end) × (end ≤ length (now s)) × (set < 3) ⌝ }
     ensures { λ r. ⌜ r ≡ every (inSet set) (slice at end (now (s .entry))) ⌝ }
 {

@@ -60,18 +60,22 @@ abbrev pub dateNumber : DateRead → Number
 dateNumber (dates.Row d next) = 0
 dateNumber (dates.Refused number) = number
 
+-- The same of a C row
 abbrev pub classNumber : ClassRead → Number
 classNumber (classes.Row c next) = 0
 classNumber (classes.Refused number) = number
 
+-- The same of an O row
 abbrev pub priorityNumber : PriorityRead → Number
 priorityNumber (priorities.Row o next) = 0
 priorityNumber (priorities.Refused number) = number
 
+-- The same of an S row
 abbrev pub securityNumber : SecurityRead → Number
 securityNumber (securities.Row s next) = 0
 securityNumber (securities.Refused number) = number
 
+-- The same of a T row
 abbrev pub tradeNumber : TradeRead → Number
 tradeNumber (trades.Row t next) = 0
 tradeNumber (trades.Refused number) = number

@@ -32,7 +32,7 @@ pub fn class_of(
     ensures { λ r. ⌜ r ≡ value (classPlace (take count (now (kinds .entry))) (take count (now (borders .entry))) kind duration) ⌝ }
 {
     let kinds: &[u64] = kinds; // as a slice: a proof is told its length
-    let borders: &[u64] = borders;
+    let borders: &[u64] = borders; // ten-thousandths of a year
     let mut i: usize = 0; // classes
     while i < count {
         if kinds[i] == kind {
@@ -46,7 +46,12 @@ pub fn class_of(
 }
 
 // Where the currency at a place stands among rising ones: behind those that come before it.
-pub fn ranked(s: &[u8], currencies: &[Place; 8], count: usize, at: Place) -> Standing
+pub fn ranked(
+    s: &[u8],
+    currencies: &[Place; 8],
+    count: usize, // currencies
+    at: Place,
+) -> Standing
     requires { ⌜ (count ≤ 8) × Within 3 (now s) (take count (now currencies)) × (at + 3 ≤ length (now s)) ⌝ }
     ensures { λ r. ⌜ r ≡ rankedOf (now (s .entry)) (take count (now (currencies .entry))) at ⌝ }
 {
@@ -79,13 +84,17 @@ pub fn ranked(s: &[u8], currencies: &[Place; 8], count: usize, at: Place) -> Sta
 }
 
 // Rising currencies with one more at its rank, where there are fewer than eight.
-pub fn with_currency(currencies: Currencies, rank: usize, at: Place) -> Currencies
+pub fn with_currency(
+    currencies: Currencies,
+    rank: usize, // currencies before it
+    at: Place,
+) -> Currencies
     requires { ⌜ (currencies .count < 8) × (rank ≤ currencies .count) ⌝ }
     ensures { λ r. ⌜ r ≡ insertedAt currencies rank at ⌝ }
 {
     let mut places = currencies.places;
     let count = currencies.count;
-    let mut i: usize = count;
+    let mut i: usize = count; // currencies
     while rank < i {
         places[i] = places[i - 1];
         i -= 1;
@@ -98,7 +107,12 @@ pub fn with_currency(currencies: Currencies, rank: usize, at: Place) -> Currenci
 }
 
 // Whether the code at a place comes after the last of the codes above.
-pub fn rises(s: &[u8], codes: &[Place; 200], count: usize, code: Place) -> bool
+pub fn rises(
+    s: &[u8],
+    codes: &[Place; 200],
+    count: usize, // codes
+    code: Place,
+) -> bool
     requires { ⌜ (count ≤ 200) × Within 12 (now s) (take count (now codes)) × (code + 12 ≤ length (now s)) ⌝ }
     ensures { λ r. ⌜ r ≡ risesOver (now (s .entry)) (take count (now (codes .entry))) code ⌝ }
 {
@@ -115,7 +129,12 @@ pub fn rises(s: &[u8], codes: &[Place; 200], count: usize, code: Place) -> bool
 }
 
 // The place of a code among rising ones, by bisection; as many as there are where it is not there.
-pub fn find(s: &[u8], codes: &[Place; 200], count: usize, code: Place) -> usize
+pub fn find(
+    s: &[u8],
+    codes: &[Place; 200],
+    count: usize, // codes
+    code: Place,
+) -> usize
     requires { ⌜ (count ≤ 200) × Within 12 (now s) (take count (now codes)) × (code + 12 ≤ length (now s)) × Rising (now s) (take count (now codes)) ⌝ }
     ensures { λ r. ⌜ r ≡ placeIn (now (s .entry)) (take count (now (codes .entry))) code ⌝ }
 {

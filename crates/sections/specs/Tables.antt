@@ -24,6 +24,7 @@ use Rattle.sections.specs.declared.Borders.{Borders}
 abbrev pub noClass : ClassRow
 noClass = record { class = 0; kind = 0; border = 0; deposit = 0 }
 
+-- The same of O rows
 abbrev pub noPriority : PriorityRow
 noPriority = record { first = 0; second = 0; factor = 0 }
 
@@ -56,9 +57,11 @@ kindOf (suc zero) = corporate
 kindOf (suc (suc zero)) = inflation
 kindOf (suc (suc (suc n))) = floating
 
+-- A border, where the kind has one
 abbrev pub borderOf : ℕ → Duration → Option Duration
 borderOf kind border = elim (ltb kind 2) [ true ↦ some border | false ↦ none ]
 
+-- The paper's C row that a row stands for
 abbrev pub classOf : ClassRow → paper.ClassRow
 classOf c = record { class = c .class; kind = kindOf (c .kind); border = borderOf (c .kind) (c .border); deposit = c .deposit }
 

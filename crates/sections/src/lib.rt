@@ -203,9 +203,9 @@ pub fn borders_of(classes: Classes) -> Borders
     ensures { λ r. ⌜ r ≡ bordersOf (classes .rows) ⌝ }
 {
     let rows = classes.rows;
-    let mut kinds: [u64; 40] = [0; 40];
-    let mut borders: [u64; 40] = [0; 40];
-    let mut numbers: [u64; 40] = [0; 40];
+    let mut kinds: [u64; 40] = [0; 40]; // by their numbers
+    let mut borders: [u64; 40] = [0; 40]; // ten-thousandths of a year
+    let mut numbers: [u64; 40] = [0; 40]; // of classes
     let mut i: usize = 0; // rows
     while i < 40 {
         let row = rows[i];
