@@ -1,6 +1,5 @@
 -- A sheet as the code holds it: the tables that the paper reads, each by the places of its lines, or the refusal.
-use Prim.Native.Nat.{ℕ, suc}
-use mathlib.Core.List.{List, [], _∷_, map}
+use mathlib.Core.List.{List, [], map}
 use mathlib.Core.Bool.{true, false}
 use lib.ListN.{length, take, drop}
 use Rattle.paper.specs.Units.{Text, Line, Number}

@@ -2,13 +2,12 @@
 -- The measure is the rows left.
 use Prim.Native.Nat.{ℕ, _-_, _≤_}
 use native.Mathlib.Omega.{arith}
-use mathlib.Core.List.{List, map}
-use mathlib.Core.Path.{_≡_, refl, sym, ap₂, _∙_}
+use mathlib.Core.List.{map}
+use mathlib.Core.Path.{_≡_, refl, _∙_}
 use lib.ListN.{length}
 use Rattle.rows.proofs.Columns.{front, column, whole-column}
 use Rattle.securities.specs.Tables.{noSecurity}
 use Rattle.securities.specs.declared.Security.{Security}
-use Rattle.sheet.specs.declared.Periods.{Periods}
 use Rattle.sheet.proofs.periods_of.Statement.{statement}
 use Rattle.sheet.proofs.periods_of.Tie as tie
 

@@ -7,7 +7,6 @@ use borrow.Author.Needs.{needs}
 use borrow.Author.Tests.{not-true, not-false}
 use lib.ListN.{drop}
 use Rattle.paper.specs.Text.{lines}
-use Rattle.paper.specs.Refusals.{refused}
 use Rattle.paper.specs.Sheet.{readTables}
 use Rattle.fields.specs.Places.{Place, endedLength}
 use Rattle.rows.specs.Reads.{dateNumber}

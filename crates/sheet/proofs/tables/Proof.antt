@@ -1,7 +1,7 @@
 -- `sheet::tables` meets its contract: each section goes on from the one before it, and is lent that one's columns.
 use Prim.Native.Nat.{_≤_}
 use native.Mathlib.Omega.{arith}
-use mathlib.Core.Path.{_≡_, sym, ap, _∙_, subst}
+use mathlib.Core.Path.{sym, ap, _∙_, subst}
 use borrow.Author.Needs.{needs}
 use lib.ListN.{take, drop}
 use Rattle.paper.specs.Units.{Day}
@@ -16,9 +16,8 @@ use Rattle.sections.specs.declared.Borders.{Borders}
 use Rattle.securities.specs.Tables.{Bordered, Findable}
 use Rattle.trades.specs.Tables.{heldTrades, Stands}
 use Rattle.sheet.specs.declared.Periods.{Periods}
-use Rattle.sheet.specs.declared.Sheet.{Sheet}
-use Rattle.sheet.proofs.Exits.{ClassesAre, OpenClasses, exit-classes, few-classes, open-classes, classes-numbered}
-use Rattle.sheet.proofs.Exits.{PrioritiesAre, OpenPriorities, exit-priorities, few-priorities, open-priorities}
+use Rattle.sheet.proofs.Exits.{OpenClasses, exit-classes, few-classes, open-classes, classes-numbered}
+use Rattle.sheet.proofs.Exits.{OpenPriorities, exit-priorities, few-priorities, open-priorities}
 use Rattle.sheet.proofs.Exits.{SecuritiesAre, OpenSecurities, exit-securities, few-securities, open-securities}
 use Rattle.sheet.proofs.Exits.{TradesAre, exit-trades, few-trades, exit-early, exit-accepted}
 use Rattle.sheet.proofs.Lent.{bordered, stands}
