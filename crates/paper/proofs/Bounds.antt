@@ -128,22 +128,17 @@ mostTotal = 88_032_100_000_000_000
 
 -- ---- one trade
 
--- Within a coupon period, what is divided for the accrued coupon: hundred-thousandths of a percent × days
-pub accrual-product-most : (s : SecurityRow) → SecurityFacts s → (on : Day) → on < day (s .next)
-    → s .coupon * (on - day (s .previous)) ≤ mostAccrualProduct
-accrual-product-most s f on l = mul-le-mul (f .coupon) (go (day (s .previous)) (day (s .next)) l (f .period-high))
-  where
-    go : (previous next : Day) → on < next → next - previous ≤ 400 → on - previous ≤ 400
-    go previous next l h = omega arith
+-- What is divided for the accrued coupon: hundred-thousandths of a percent × days
+pub accrual-product-most : (coupon : Quote) (run : Days) → coupon ≤ 2_000_000 → run ≤ 400 → coupon * run ≤ mostAccrualProduct
+accrual-product-most coupon run c r = mul-le-mul c r
 
 -- What it is divided by is one day or more
-pub accrual-divisor-low : (s : SecurityRow) → SecurityFacts s → 1 ≤ s .payments * (day (s .next) - day (s .previous))
-accrual-divisor-low s f = mul-pos (f .payments-low) (f .period-low)
+pub accrual-divisor-low : (payments : Payments) (period : Days) → 1 ≤ payments → 1 ≤ period → 1 ≤ payments * period
+accrual-divisor-low payments period p q = mul-pos p q
 
 -- ... and at most 1,600 days
-pub accrual-divisor-most : (s : SecurityRow) → SecurityFacts s
-    → s .payments * (day (s .next) - day (s .previous)) ≤ mostAccrualDivisor
-accrual-divisor-most s f = mul-le-mul (f .payments-high) (f .period-high)
+pub accrual-divisor-most : (payments : Payments) (period : Days) → payments ≤ 4 → period ≤ 400 → payments * period ≤ mostAccrualDivisor
+accrual-divisor-most payments period p q = mul-le-mul p q
 
 -- Coupon accrued over no more than its period is at most the yearly coupon, hundred-thousandths of a percent
 pub accrued-most : (coupon : Quote) (payments : Payments) (run period : Days)
@@ -152,24 +147,23 @@ accrued-most coupon payments run period p q r =
     nearest-at-most (coupon * run) coupon (payments * period) (mul-pos p q)
     (mul-le-mul-left coupon (le-trans r (rw (mul-comm payments period) (le-mul-of-pos-right period p))))
 
--- Accrued coupon of a security on a day of its coupon period, hundred-thousandths of a percent
-pub accrued-on-most : (s : SecurityRow) → SecurityFacts s → (on : Day) → on < day (s .next)
-    → accruedOn s on ≤ mostAccrued
-accrued-on-most s f on l =
-    le-trans
-    (accrued-most (s .coupon) (s .payments) (on - day (s .previous)) (day (s .next) - day (s .previous))
+-- Price with coupon accrued over no more than its period, hundred-thousandths of a percent
+pub quote-most : (price coupon : Quote) (payments : Payments) (run period : Days) → price ≤ 20_000_000 → coupon ≤ 2_000_000
+    → 1 ≤ payments → 1 ≤ period → run ≤ period → price + accrued coupon payments run period ≤ mostQuote
+quote-most price coupon payments run period h c p q r = omega (arith, accrued-most coupon payments run period p q r)
+
+-- Price of a security with the coupon accrued on a day before the next coupon date, hundred-thousandths of a percent
+pub quote-on-most : (s : SecurityRow) → SecurityFacts s → (on : Day) → on < day (s .next)
+    → s .price + accruedOn s on ≤ mostQuote
+quote-on-most s f on l =
+    quote-most (s .price) (s .coupon) (s .payments) (on - day (s .previous)) (day (s .next) - day (s .previous)) (f .price-high)
+    (f .coupon)
     (f .payments-low)
     (f .period-low)
-    (go (day (s .previous)) (day (s .next)) l))
-    (f .coupon)
+    (go (day (s .previous)) (day (s .next)) l)
   where
     go : (previous next : Day) → on < next → on - previous ≤ next - previous
     go previous next l = omega arith
-
--- Price with accrued coupon, hundred-thousandths of a percent
-pub quote-most : (s : SecurityRow) → SecurityFacts s → (on : Day) → on < day (s .next)
-    → s .price + accruedOn s on ≤ mostQuote
-quote-most s f on l = omega (arith, f .price-high, accrued-on-most s f on l)
 
 -- Nominal × price with accrued coupon, cents × 100,000
 pub worth-product-most : (nominal : Nominal) (quote : Quote) → nominal ≤ 100_000_000 → quote ≤ mostQuote
@@ -287,7 +281,7 @@ pub valued-facts : (today : Day) (at : Line) (t : TradeRow) (s : SecurityRow)
     → ValuedFacts (valued today at t s)
 valued-facts today at t s f g m l a =
     let quote = s .price + accruedOn s (accrualDay today t) in
-    let worth = worth-most (t .nominal) quote (f .nominal-high) (quote-most s g (accrualDay today t) l) in
+    let worth = worth-most (t .nominal) quote (f .nominal-high) (quote-on-most s g (accrualDay today t) l) in
     let sign = sign-size (t .trade) (t .side) in
     record {
       line = a;

@@ -14,7 +14,7 @@ use Rattle.paper.specs.Text.{same}
 use Rattle.paper.specs.Days.{day}
 use Rattle.paper.specs.Currencies.{currencies}
 use Rattle.paper.specs.Valuation.{Valued, valuedFrom}
-use Rattle.paper.specs.Offsetting.{Netted, nettedIn, Book, opening}
+use Rattle.paper.specs.Offsetting.{netsIn, Book, opening}
 use Rattle.paper.specs.Refusals.{Outcome, refused, accepted, judged, _>>=_, isClass, isFactor, hasClass, priorityRules}
 use Rattle.paper.specs.Sheet.{readSheet}
 use Rattle.paper.specs.Report.{tradeLine, marginOf, classLine, currencyLine, markIn, currencyLines, reportOf}
@@ -168,15 +168,14 @@ reordered-report : (t : Tables) (os : List PriorityRow) → Reordered (Apart nam
     → reportOf (withPriorities t os) ≡ reportOf t
 unfolding reportOf currencyLines
 reordered-report t os r =
-    ap₂ (λ (vs : List Valued) (currency : List Valued → List Netted → Currency → Text).
-    joinedUp (map tradeLine vs)
-    ++ joinedUp (map (currency vs (map (nettedIn (t .classes) vs) (t .securities))) (currencies (t .securities))))
+    ap₂ (λ (vs : List Valued) (currency : List Valued → Currency → Text).
+    joinedUp (map tradeLine vs) ++ joinedUp (map (currency vs) (currencies (t .securities))))
     (ap (λ (n : ℕ). valuedFrom (day (t .date)) (t .securities) (3 + length (t .classes) + n + length (t .securities)) (t .trades))
     (sym (same-length (Apart names) r)))
-    (fun-ext λ vs. fun-ext λ ns. fun-ext λ c.
+    (fun-ext λ vs. fun-ext λ c.
     ap (λ (b : Book).
     joinedUp (map (classLine c b) (t .classes)) ++ currencyLine c (markIn c vs) (sum (map (marginOf b) (t .classes))))
-    (sym (same-offsets (t .priorities) os r (opening (only (λ n. same (n .currency) c) ns)))))
+    (sym (same-offsets (t .priorities) os r (opening (netsIn t vs c)))))
 
 -- Demand 3. Reorder an accepted sheet's priority rows so that each class still meets the rows that name it, the same rows
 -- in the same order: the new sheet is accepted, with the same report byte for byte. Each row takes as much off the longs

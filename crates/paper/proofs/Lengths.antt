@@ -23,7 +23,7 @@ use Rattle.paper.proofs.Fields.{code-length, currency-length}
 use Rattle.paper.proofs.Currencies.{few-currencies, each-currency}
 use Rattle.paper.proofs.Rules.{DateFacts, ClassFacts, PriorityFacts, SecurityFacts, TradeFacts}
 use Rattle.paper.proofs.Bounds.{mostMarkSum, mostInitial, ValuedFacts}
-use Rattle.paper.proofs.Totals.{margined-facts, table-facts, BookFacts, margin-most, total-most, netsIn, remainingIn, currency-facts}
+use Rattle.paper.proofs.Totals.{margined-facts, table-facts, BookFacts, margin-most, total-most, remainingIn, currency-facts}
 
 -- Fields parted by a mark, with one more mark behind them, have the fields' bytes and one more for each
 parted-length : (mark : Byte) (f : Text) (fs : Fields)
@@ -84,7 +84,7 @@ currency-line-most c mark initial e m i =
 
 -- The lines of a currency have at most 2,216 bytes
 pub currency-lines-most : (t : Tables) → Admitted t → (c : Currency) → isCurrency c ≡ true
-    → length (currencyLines t (valuedIn t) (netsIn t) c) ≤ 2_216
+    → length (currencyLines t (valuedIn t) c) ≤ 2_216
 unfolding currencyLines
 currency-lines-most t a c e =
     let f = table-facts t a in
@@ -108,7 +108,7 @@ report-fits t a =
     let v = margined-facts t a in
     let cs = currencies (t .securities) in
     let each = each-currency (λ c. isCurrency c ≡ true) (t .securities) (each-map (λ s g. g .currency) (f .securities)) in
-    let lines = currencyLines t (valuedIn t) (netsIn t) in
+    let lines = currencyLines t (valuedIn t) in
     omega (
       arith,
       length-append (joinedUp (map tradeLine (valuedIn t))) (joinedUp (map lines cs)),

@@ -17,7 +17,7 @@ use Rattle.paper.specs.Text.{same}
 use Rattle.paper.specs.Rows.{ClassRow, PriorityRow, SecurityRow, TradeRow, Tables}
 use Rattle.paper.specs.Valuation.{margined, accrualDay, securityOf, Valued, valued, valuedFrom, valuedIn, signedWorthsIn, netOf}
 use Rattle.paper.specs.Refusals.{classRules, priorityRules, securityRules, tradeRules}
-use Rattle.paper.specs.Offsetting.{Book, position, Netted, nettedIn, flat, summed, opening, offsetAll, total}
+use Rattle.paper.specs.Offsetting.{Book, position, Netted, nettedIn, netsIn, flat, summed, opening, offsetAll, total}
 use Rattle.paper.specs.Report.{marginOf, markIn}
 use Rattle.paper.specs.Tables.{hold, Admitted}
 use Rattle.paper.proofs.Lists.{Each, nil, cons, each-map, each-all, each-found, each-only, length-only, each-made, sum-most, set-most}
@@ -221,13 +221,9 @@ total-most initial mark i m =
 
 -- ---- one currency of admitted tables
 
--- The nets of all securities, as the report has them
-abbrev pub netsIn : Tables → List Netted
-netsIn t = map (nettedIn (t .classes) (valuedIn t)) (t .securities)
-
 -- The opening positions of a currency, as the report has them
 abbrev pub openingIn : Tables → Currency → Book
-openingIn t c = opening (only (λ n. same (n .currency) c) (netsIn t))
+openingIn t c = opening (netsIn t (valuedIn t) c)
 
 -- ... and its remaining positions
 abbrev pub remainingIn : Tables → Currency → Book
@@ -236,13 +232,10 @@ remainingIn t c = offsetAll (t .priorities) (openingIn t c)
 -- The opening positions of a currency, whole units; `remaining-most` has what is left of them after any rows
 pub opening-in-most : (t : Tables) → Admitted t → (c : Currency) → BookFacts (openingIn t c)
 opening-in-most t a c =
+    let own = only (λ s. same (s .currency) c) (t .securities) in
     let net = nettedIn (t .classes) (valuedIn t) in
-    let few : length (netsIn t) ≤ 200 = rw (length-map (t .securities) net) (table-facts t a .few-securities) in
-    opening-most (only own (netsIn t)) (le-trans (length-only own (netsIn t)) few)
-    (each-only own (netsIn t) (nets-most (t .classes) (valuedIn t) (margined-facts t a) (t .securities)))
-  where
-    own : Netted → Bool
-    own n = same (n .currency) c
+    let few : length own ≤ 200 = le-trans (length-only (λ s. same (s .currency) c) (t .securities)) (table-facts t a .few-securities) in
+    opening-most (map net own) (rw (length-map own net) few) (nets-most (t .classes) (valuedIn t) (margined-facts t a) own)
 
 -- How large the figures of a currency are: its remaining positions, class margins and initial margin in whole units,
 -- its mark-to-market sum and total in cents

@@ -1,16 +1,17 @@
 -- Offsetting and margins (01, "Offsetting" and "Class margin"; 000 III and IV, 001 articles 3.2 and 3.3).
 use Prim.Native.Nat.{zero, suc, _+_, _-_, _*_, min, max}
 use mathlib.Core.Bool.{true, false}
-use mathlib.Core.List.{List, [], _∷_}
+use mathlib.Core.List.{List, [], _∷_, map}
 use mathlib.Core.Option.{Option·getD}
 use lib.Dec.{eqb}
 use lib.IntN.{pos, _-ℤ_}
 use lib.ListN.{getD, set}
 use Rattle.paper.specs.Units.{Class, Currency, Factor, Cents, SignedCents, Whole, SignedWhole}
-use Rattle.paper.specs.Lists.{inTurn}
+use Rattle.paper.specs.Lists.{only, inTurn}
 use Rattle.paper.specs.Rounding.{nearest}
 use Rattle.paper.specs.Signs.{aboveZero, belowZero}
-use Rattle.paper.specs.Rows.{ClassRow, PriorityRow, SecurityRow}
+use Rattle.paper.specs.Text.{same}
+use Rattle.paper.specs.Rows.{ClassRow, PriorityRow, SecurityRow, Tables}
 use Rattle.paper.specs.Valuation.{Valued, signedWorthsIn, netOf, classOf}
 
 -- The positions of all classes in one currency, whole units: the list has each class's at the place of its number
@@ -22,20 +23,19 @@ pub record Book : Type 0 where
 abbrev pub position : List Whole → Class → Whole
 position ps n = getD ps n 0
 
--- A security's currency and class, and its net in whole units
+-- A security's class, and its net in whole units
 pub record Netted : Type 0 where
-  pub currency : Currency
   pub class : Class
   pub net : SignedWhole
 
 -- The net of a security, from the margined trades
 abbrev pub nettedIn : List ClassRow → List Valued → SecurityRow → Netted
 nettedIn cs vs s =
-    record {
-      currency = s .currency;
-      class = Option·getD (classOf cs (s .kind) (s .duration)) 0;
-      net = netOf (signedWorthsIn (s .code) vs);
-    }
+    record { class = Option·getD (classOf cs (s .kind) (s .duration)) 0; net = netOf (signedWorthsIn (s .code) vs) }
+
+-- The nets of a currency's securities
+abbrev pub netsIn : Tables → List Valued → Currency → List Netted
+netsIn t vs c = map (nettedIn (t .classes) vs) (only (λ s. same (s .currency) c) (t .securities))
 
 -- No position, for the classes up to a number
 abbrev pub flat : Class → List Whole

@@ -7,7 +7,7 @@ use Rattle.paper.specs.Text.{ascii, lineOf, digits, signedDigits, same}
 use Rattle.paper.specs.Rows.{ClassRow, Tables}
 use Rattle.paper.specs.Currencies.{currencies}
 use Rattle.paper.specs.Valuation.{Valued, valuedIn}
-use Rattle.paper.specs.Offsetting.{Netted, nettedIn, Book, position, opening, offsetAll, margin, total}
+use Rattle.paper.specs.Offsetting.{netsIn, Book, position, opening, offsetAll, margin, total}
 
 -- M;line;currency;mark-to-market, for a margined trade: cents
 abbrev pub tradeLine : Valued → Text
@@ -34,9 +34,9 @@ abbrev pub markIn : Currency → List Valued → SignedCents
 markIn c vs = signedSum (map (λ v. v .mark) (only (λ v. same (v .security .currency) c) vs))
 
 -- A currency's lines: K for every class by rising number, and Z; the initial margin is the sum of the class margins
-unfoldable pub currencyLines : Tables → List Valued → List Netted → Currency → Text
-currencyLines t vs ns c =
-    let remaining = offsetAll (t .priorities) (opening (only (λ n. same (n .currency) c) ns)) in
+unfoldable pub currencyLines : Tables → List Valued → Currency → Text
+currencyLines t vs c =
+    let remaining = offsetAll (t .priorities) (opening (netsIn t vs c)) in
     joinedUp (map (classLine c remaining) (t .classes))
     ++ currencyLine c (markIn c vs) (sum (map (marginOf remaining) (t .classes)))
 
@@ -44,5 +44,4 @@ currencyLines t vs ns c =
 unfoldable pub reportOf : Tables → Text
 reportOf t =
     let vs = valuedIn t in
-    let ns = map (nettedIn (t .classes) vs) (t .securities) in
-    joinedUp (map tradeLine vs) ++ joinedUp (map (currencyLines t vs ns) (currencies (t .securities)))
+    joinedUp (map tradeLine vs) ++ joinedUp (map (currencyLines t vs) (currencies (t .securities)))
