@@ -150,12 +150,25 @@ pub each-every : {A : Type 0} (test : A → Bool) {xs : List A} → Each (λ x. 
 each-every test nil = refl
 each-every test (cons {a} {rest} p ps) = rw (every-step test a rest, p) (each-every test ps)
 
+-- What is made of each entry, at a place of them
+pub made-at : {A B : Type 0} (make : A → B) (xs : List A) (n : ℕ) (x : B) (y : A) → n < length xs
+    → getD (map make xs) n x ≡ make (getD xs n y)
+made-at make [] n x y h = absurd (omega arith)
+made-at make (a ∷ xs) zero x y h = refl
+made-at make (a ∷ xs) (suc n) x y h = made-at make xs n x y (omega arith)
+
 -- Of the first, and of the rest
 pub each-first : {A : Type 0} {P : A → Type 0} {a : A} {rest : List A} → Each P (a ∷ rest) → P a
 each-first (cons p ps) = p
 
 pub each-rest : {A : Type 0} {P : A → Type 0} {a : A} {rest : List A} → Each P (a ∷ rest) → Each P rest
 each-rest (cons p ps) = ps
+
+-- ... and of what stands at a place below the length
+pub each-at : {A : Type 0} {P : A → Type 0} {xs : List A} (n : ℕ) (other : A) → Each P xs → n < length xs → P (getD xs n other)
+each-at n other nil h = absurd (omega arith)
+each-at zero other (cons p rest) h = p
+each-at (suc n) other (cons p rest) h = each-at n other rest (omega arith)
 
 -- Where no entry passes a test, none is kept
 pub only-none : {A : Type 0} (test : A → Bool) (xs : List A) → Each (λ x. test x ≡ false) xs → only test xs ≡ []

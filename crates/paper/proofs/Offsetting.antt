@@ -70,12 +70,12 @@ taken-same f n m b c p q = rw (p, q)
 -- ---- a row
 
 -- A row that names one class twice
-row-one : (o : PriorityRow) (b : Book) → eqb (o .first) (o .second) ≡ true → offsetRow o b ≡ offset (o .factor) (o .first) (o .first) b
+pub row-one : (o : PriorityRow) (b : Book) → eqb (o .first) (o .second) ≡ true → offsetRow o b ≡ offset (o .factor) (o .first) (o .first) b
 unfolding offsetRow
 row-one o b e = rw (e, offsetRow)
 
 -- A row that names two classes
-row-two : (o : PriorityRow) (b : Book) → eqb (o .first) (o .second) ≡ false
+pub row-two : (o : PriorityRow) (b : Book) → eqb (o .first) (o .second) ≡ false
     → offsetRow o b ≡ offset (o .factor) (o .second) (o .first) (offset (o .factor) (o .first) (o .second) b)
 unfolding offsetRow
 row-two o b e = rw (e, offsetRow)

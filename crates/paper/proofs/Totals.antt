@@ -17,7 +17,7 @@ use Rattle.paper.specs.Text.{same}
 use Rattle.paper.specs.Rows.{ClassRow, PriorityRow, SecurityRow, TradeRow, Tables}
 use Rattle.paper.specs.Valuation.{margined, accrualDay, securityOf, Valued, valued, valuedFrom, valuedIn, signedWorthsIn, netOf}
 use Rattle.paper.specs.Refusals.{classRules, priorityRules, securityRules, tradeRules}
-use Rattle.paper.specs.Offsetting.{Book, position, Netted, nettedIn, netsIn, flat, summed, opening, offsetAll, total}
+use Rattle.paper.specs.Offsetting.{Book, position, Netted, nettedIn, netsIn, flat, summed, opening, offsetAll, margin, total}
 use Rattle.paper.specs.Report.{marginOf, markIn}
 use Rattle.paper.specs.Tables.{hold, Admitted}
 use Rattle.paper.proofs.Lists.{Each, nil, cons, each-map, each-all, each-found, each-only, length-only, each-made, sum-most, set-most}
@@ -199,19 +199,27 @@ pub share-product-most : (factor : Factor) (amount : Whole) → factor ≤ 10_00
     → factor * amount ≤ mostShareProduct
 share-product-most factor amount f a = mul-le-mul f a
 
+-- The margin of a deposit factor on the positions of a class, whole units
+pub margin-on-most : (deposit : Factor) (n : Class) (b : Book) → deposit ≤ 10_000 → BookFacts b
+    → margin deposit (position (b .long) n) (position (b .short) n) ≤ mostMargin
+margin-on-most deposit n b d g =
+    le-trans (share-below deposit (max (position (b .long) n) (position (b .short) n)) d) (max-le (g .long n) (g .short n))
+
 -- The margin of a class, whole units
 pub margin-most : (c : ClassRow) (b : Book) → ClassFacts c → BookFacts b → marginOf b c ≤ mostMargin
-margin-most c b f g =
-    let larger = max (position (b .long) (c .class)) (position (b .short) (c .class)) in
-    le-trans (share-below (c .deposit) larger (f .deposit)) (max-le (g .long (c .class)) (g .short (c .class)))
+margin-most c b f g = margin-on-most (c .deposit) (c .class) b (f .deposit) g
+
+-- The margins of at most 40 rows, summed: whole units
+pub margins-most : {R : Type 0} (marginFor : R → Whole) (rs : List R) → length rs ≤ 40 → Each (λ r. marginFor r ≤ mostMargin) rs
+    → sum (map marginFor rs) ≤ mostInitial
+margins-most marginFor rs few each =
+    le-trans (sum-most mostMargin (map marginFor rs) (each-made marginFor rs each))
+    (mul-le-mul-right {n = 40} mostMargin (rw (length-map rs marginFor) few))
 
 -- The initial margin of a currency, whole units
 pub initial-most : (cs : List ClassRow) (b : Book) → length cs ≤ 40 → Each ClassFacts cs → BookFacts b
     → sum (map (marginOf b) cs) ≤ mostInitial
-initial-most cs b few each g =
-    let small = each-made (marginOf b) cs (each-map (λ c f. margin-most c b f g) each) in
-    le-trans (sum-most mostMargin (map (marginOf b) cs) small)
-    (mul-le-mul-right {n = 40} mostMargin (rw (length-map cs (marginOf b)) few))
+initial-most cs b few each g = margins-most (marginOf b) cs few (each-map (λ c f. margin-most c b f g) each)
 
 -- The total of a currency, cents
 pub total-most : (initial : Whole) (mark : SignedCents) → initial ≤ mostInitial → natAbs mark ≤ mostMarkSum

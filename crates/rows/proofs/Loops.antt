@@ -8,7 +8,7 @@ use mathlib.Core.List.{List, [], _∷_, _++_, reverse, reverse-cons}
 use mathlib.Core.Option.{Option, none, some}
 use mathlib.Core.Logic.{⊎-elim}
 use mathlib.Core.Path.{_≡_, refl, sym, ap, _∙_, subst}
-use borrow.Author.Tests.{eqb-true, ltb-true, ltb-false}
+use borrow.Author.Tests.{eqb-true, eq-eqb, ltb-true, ltb-false}
 use lib.Dec.{T, eqb, ltb}
 use lib.ListN.{length, getD, take, drop, set, replicate, length-append, length-reverse}
 use lib.Seq.{take-take, take-append-seam, take-append-add, append-snoc, set-append-seam}
@@ -17,8 +17,8 @@ use Rattle.paper.specs.Text.{lines}
 use Rattle.paper.specs.Refusals.{Outcome, refused, accepted, Rule, judged}
 use Rattle.paper.specs.Sheet.{Rest, begins, row, rowsFrom, section}
 use Rattle.paper.specs.Tables.{hold}
-use Rattle.paper.proofs.Lists.{both}
-use Rattle.paper.proofs.Outcomes.{not-accepted, judged-accepted}
+use Rattle.paper.proofs.Lists.{both, Each, nil, cons}
+use Rattle.paper.proofs.Outcomes.{not-accepted, judged-holds, judged-accepted}
 use Rattle.fields.specs.Places.{Place, endedLength, lineAt}
 use Rattle.fields.proofs.Places.{line-there, no-line, unended-line, ended-most}
 use Rattle.rows.specs.Fields.{fieldsAt, shaped}
@@ -81,6 +81,11 @@ shaped-read {R} many read rules fs r e = go (eqb (length fs) many) refl (read fs
     go false f o k e = not-accepted e
     go true f none k e = not-accepted e
     go true f (some q) k e = (eqb-true (length fs) many f, k ∙ ap some (judged-accepted 0 q r (rules q) e .0))
+
+-- Fields that have their number, and read as a row that keeps the rules, are accepted
+pub shaped-back : {R : Type 0} (many : ℕ) (read : Fields → Option R) (rules : R → List Rule) (fs : Fields) (r : R)
+    → length fs ≡ many → read fs ≡ some r → T (hold (rules r)) → shaped many read rules fs ≡ accepted r
+shaped-back many read rules fs r counted is h = rw (eq-eqb (length fs) many counted, shaped, is) (judged-holds 0 r (rules r) h)
 
 -- ---- lines counted from another one
 
@@ -162,7 +167,7 @@ pub padded-none : {H : Type 0} (most : ℕ) (x : H) → padded most x [] ≡ rep
 padded-none most x = take-replicate most most x (le-refl most)
 
 -- A table as what it holds and what is free
-padded-parts : {H : Type 0} (most free k : ℕ) (x : H) (hs : List H) → most ≡ length hs + free → free ≤ k
+pub padded-parts : {H : Type 0} (most free k : ℕ) (x : H) (hs : List H) → most ≡ length hs + free → free ≤ k
     → take most (hs ++ replicate k x) ≡ hs ++ replicate free x
 padded-parts most free k x hs e h =
     ap (λ (n : ℕ). take n (hs ++ replicate k x)) e ∙ take-append-add hs (replicate k x) free
@@ -211,6 +216,12 @@ pub each-more : {R : Type 0} (P : Place → R → Type 0) (sheet : Text) {from :
     → P (nextAfter sheet from (length rs)) r → EachFrom P sheet from (rs ++ (r ∷ []))
 each-more P sheet r none-from p = one-from p none-from
 each-more P sheet r (one-from q each) p = one-from q (each-more P sheet r each p)
+
+-- What is true of each row with the place of its line, together with what is true of it anywhere
+pub each-with : {R : Type 0} {P S : Place → R → Type 0} {Q : R → Type 0} {sheet : Text} {from : Place} {rs : List R}
+    → ((at : Place) (r : R) → P at r → Q r → S at r) → EachFrom P sheet from rs → Each Q rs → EachFrom S sheet from rs
+each-with f none-from nil = none-from
+each-with f (one-from p each) (cons q others) = one-from (f _ _ p q) (each-with f each others)
 
 -- A table of rows that were read, the nearest first, with one more
 module _ {R H : Type 0} (held : Place → R → H) (sheet : Text) (from : Place) (empty : H) (most : ℕ) (above : List R) {rows : List H} {count : ℕ}

@@ -5,3 +5,4 @@ pub mod Starting
 pub mod Exits
 pub mod Lent
 pub mod Marks
+pub mod Found

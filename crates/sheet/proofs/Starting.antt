@@ -61,11 +61,14 @@ header-wrong sheet other = go (same (ascii "BRM;") (take 4 sheet)) (same (ascii 
     go true false other = refl
     go false version other = refl
 
--- A right header ends in an LF
+-- A header that is accepted ends in an LF
+pub accepted-ended : (sheet : Text) (rest : Rest) → header sheet ≡ accepted rest → 6 ≤ endedLength sheet
+accepted-ended sheet rest e =
+    omega (arith, ap endedLength (header-written sheet rest e .1), ended-append (ascii "BRM;1") (drop 6 sheet))
+
+-- ... as one that is right does
 pub header-ended : (sheet : Text) → headerNumber sheet ≡ 0 → 6 ≤ endedLength sheet
-header-ended sheet e =
-    let split = header-written sheet (2, lines (drop 6 sheet)) (header-right sheet e) .1 in
-    omega (arith, ap endedLength split, ended-append (ascii "BRM;1") (drop 6 sheet))
+header-ended sheet e = accepted-ended sheet (2, lines (drop 6 sheet)) (header-right sheet e)
 
 -- No D row: no line with its letter stands there
 pub no-date : (sheet : Text) → 6 ≤ endedLength sheet → goesOn sheet 6 (endedLength sheet) 68 ≡ false

@@ -17,7 +17,7 @@ use Rattle.paper.specs.Rows.{repo, cash, government, field, tradeIn, sideIn, re
 use Rattle.paper.specs.Valuation.{margined, accrualDay, securityOf}
 use Rattle.paper.specs.Refusals.{Outcome, refused, accepted, inPeriod, tradeRules}
 use Rattle.paper.specs.Sheet.{begins, row}
-use Rattle.paper.proofs.Lists.{tests, never, bind-some}
+use Rattle.paper.proofs.Lists.{tests, never, bind-some, made-at}
 use Rattle.fields.specs.Places.{Place, endedLength, lineAt}
 use Rattle.rows.specs.Fields.{fieldsAt, tradeShape}
 use Rattle.rows.specs.Held.{fieldPlace, heldTrade}
@@ -55,7 +55,7 @@ accrual-held sheet at today working t e = go (t .trade)
     go cash = refl
 
 -- The code of a trade stands at its place
-code-text : (sheet : Text) (at : Place) (t : paper.TradeRow) → at < endedLength sheet → tradeShape (fieldsAt sheet at) ≡ accepted t
+pub code-text : (sheet : Text) (at : Place) (t : paper.TradeRow) → at < endedLength sheet → tradeShape (fieldsAt sheet at) ≡ accepted t
     → (textAt 12 sheet (fieldPlace sheet at 2) ≡ t .code) × (fieldPlace sheet at 2 + 12 ≤ length sheet)
 code-text sheet at t h e =
     let fs = fieldsAt sheet at in
@@ -121,13 +121,6 @@ module _ (sheet : Text) (today working : Day) (is-working : working ≡ workingA
             previous = 0;
             next = 0;
           }
-
-      -- What is made of each entry, at a place of them
-      made-at : (f : paper.SecurityRow → Day) (rows : List paper.SecurityRow) (n : ℕ) (x : Day) (y : paper.SecurityRow) → n < length rows
-          → getD (map f rows) n x ≡ f (getD rows n y)
-      made-at f [] n x y h = absurd (omega arith)
-      made-at f (r ∷ rows) zero x y h = refl
-      made-at f (r ∷ rows) (suc n) x y h = made-at f rows n x y (omega arith)
 
   pub trade-agrees : (at : Place) (above : List paper.TradeRow) → at < endedLength sheet → begins (84 ∷ []) (fieldsAt sheet at) ≡ true
       → TradeAgrees (heldFound sheet today codes at) (lineAt sheet at .next) (length above)

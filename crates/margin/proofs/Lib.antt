@@ -1,0 +1,5 @@
+pub mod Backwards
+pub mod Gathered
+pub mod Values
+pub mod Positions
+pub mod Forwards
