@@ -1,5 +1,13 @@
 pub mod Backwards
+pub mod Forwards
 pub mod Gathered
 pub mod Values
 pub mod Positions
-pub mod Forwards
+pub mod Rows
+pub mod Keyed
+pub mod Ranks
+pub mod Nets
+pub mod Trades
+pub mod Summed
+pub mod Ranged
+pub mod Paper

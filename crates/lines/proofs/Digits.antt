@@ -1,0 +1,34 @@
+-- A number's digits by its ones and tens.
+use Prim.Native.Nat.{ℕ, zero, suc, _+_, _/_, _%_, _≤_, _<_}
+use native.Mathlib.Omega.{arith}
+use mathlib.Core.Bool.{Bool, true, false}
+use mathlib.Core.List.{[], _∷_, _++_}
+use mathlib.Core.Path.{_≡_, refl}
+use borrow.Author.Tests.{ltb-false, lt-ltb, le-ltb}
+use lib.Dec.{ltb}
+use Rattle.paper.specs.Units.{Text}
+use Rattle.paper.specs.Text.{digitsBefore, digits}
+
+-- What stands behind digits has no part in them, nor how many are allowed, where that is enough
+behind : (a b n : ℕ) (s t : Text) → n < a → n < b → digitsBefore a n (s ++ t) ≡ digitsBefore b n s ++ t
+behind zero b n s t p q = absurd (omega arith)
+behind (suc a) zero n s t p q = absurd (omega arith)
+behind (suc a) (suc b) n s t p q = go (ltb n 10) refl (behind a b (n / 10) ((48 + n % 10) ∷ s) t)
+  where
+    go : (c : Bool) → ltb n 10 ≡ c
+        → (n / 10 < a → n / 10 < b → digitsBefore a (n / 10) ((48 + n % 10) ∷ s ++ t) ≡ digitsBefore b (n / 10) ((48 + n % 10) ∷ s) ++ t)
+        → digitsBefore (suc a) n (s ++ t) ≡ digitsBefore (suc b) n s ++ t
+    go true e r = rw (e, digitsBefore)
+    go false e r =
+        let ten = ltb-false n 10 e in
+        rw (e, digitsBefore) (r (omega arith) (omega arith))
+
+-- A number below ten is one digit
+pub digits-one : (n : ℕ) → n < 10 → digits n ≡ (48 + n) ∷ []
+unfolding digits
+digits-one n h = rw (lt-ltb n 10 h, digitsBefore)
+
+-- Any other is its tens, then its ones
+pub digits-more : (n : ℕ) → 10 ≤ n → digits n ≡ digits (n / 10) ++ ((48 + n % 10) ∷ [])
+unfolding digits
+digits-more n h = rw (le-ltb n 10 h, digitsBefore) (behind n (suc (n / 10)) (n / 10) [] ((48 + n % 10) ∷ []) (omega arith) (omega arith))

@@ -1,0 +1,80 @@
+-- Texts written one behind the other are one text written, and so are the fields of a line.
+use Prim.Native.Nat.{ℕ, _+_, _≤_}
+use native.Mathlib.Nat.{add-assoc}
+use native.Mathlib.Omega.{arith}
+use mathlib.Core.List.{[], _∷_, _++_, append-assoc}
+use mathlib.Core.Path.{_≡_, sym, ap, ap₂, _∙_}
+use lib.ListN.{length, take, drop, length-append, length-drop}
+use lib.Seq.{length-take-le, take-at, drop-at, drop-drop}
+use Rattle.paper.specs.Units.{Text, Fields}
+use Rattle.paper.specs.Text.{semicolon, lineOf}
+use Rattle.fields.specs.Places.{Place}
+use Rattle.lines.specs.Written.{written, Wrote}
+
+-- A text that fits leaves a buffer as long as it was
+pub written-length : (t : Text) (at : Place) (b : Text) → at + length t ≤ length b → length (written t at b) ≡ length b
+written-length t at b fits = simp (length-append, length-drop, length-take-le at b (omega arith)) (omega arith)
+
+-- A text written behind another is the two written as one
+pub written-on : (t u : Text) (at : Place) (b : Text) → at + length t ≤ length b
+    → written u (at + length t) (written t at b) ≡ written (t ++ u) at b
+written-on t u at b fits =
+    let next = at + length t in
+    let head = take at b ++ t in
+    let tail = drop next b in
+    let split : written t at b ≡ head ++ tail = sym (append-assoc (take at b) t tail) in
+    let size : length head ≡ next =
+    length-append (take at b) t ∙ ap (λ (n : ℕ). n + length t) (length-take-le at b (omega arith)) in
+    rw (
+      split,
+      take-at head tail next size,
+      ← (drop-drop (length u) next (head ++ tail)),
+      drop-at head tail next size,
+      drop-drop (length u) next b,
+      length-append,
+      ← (add-assoc at (length t) (length u)),
+    )
+    (simp append-assoc)
+
+module _ (t u : Text) (at : Place) (b : Text) (fits : at + length (t ++ u) ≤ length b) {next : Place} {after : Text} (w : Wrote t at b next after) where
+  -- Where two texts fit, the second fits behind the first
+  pub room : next + length u ≤ length after
+  room = omega (arith, length-append t u, ap length (w .1) ∙ written-length t at b (omega (arith, length-append t u)))
+
+  -- And written there, it makes the two one
+  pub joined : {last : Place} {end : Text} → Wrote u next after last end → Wrote (t ++ u) at b last end
+  joined v = (
+    omega (arith, length-append t u),
+    v .1 ∙ ap₂ (written u) (w .0) (w .1) ∙ written-on t u at b (omega (arith, length-append t u)),
+  )
+
+-- A line of several fields is the first of them with `;`, then the line of the others
+line-first : (f g : Text) (fs : Fields) → lineOf (f ∷ g ∷ fs) ≡ (f ++ (semicolon ∷ [])) ++ lineOf (g ∷ fs)
+line-first f g fs = simp append-assoc
+
+-- Of a line that goes to a place of a buffer, the fields still to be written, and where: they fit, and make the line whole
+pub record Left (line : Text) (at : Place) (b : Text) (fields : Fields) (next : Place) (after : Text) : Type 0 where
+  pub fits : next + length (lineOf fields) ≤ length after
+  pub whole : {last : Place} {end : Text} → Wrote (lineOf fields) next after last end → Wrote line at b last end
+
+-- At first all of them
+pub all-left : (fields : Fields) (at : Place) (b : Text) → at + length (lineOf fields) ≤ length b
+    → Left (lineOf fields) at b fields at b
+all-left fields at b h = record { fits = h; whole = λ w. w }
+
+module _ {line : Text} {at : Place} {b f g : Text} {fs : Fields} {next : Place} {after : Text} (l : Left line at b (f ∷ g ∷ fs) next after) where
+  -- The first of those left and the others fit
+  both-fit : next + length ((f ++ (semicolon ∷ [])) ++ lineOf (g ∷ fs)) ≤ length after
+  both-fit = rw (← (line-first f g fs)) (l .fits)
+
+  -- So the first does
+  pub field-fits : next + length (f ++ (semicolon ∷ [])) ≤ length after
+  field-fits = omega (arith, both-fit, length-append (f ++ (semicolon ∷ [])) (lineOf (g ∷ fs)))
+
+  -- Once it is written, the others are left
+  pub others-left : {last : Place} {end : Text} → Wrote (f ++ (semicolon ∷ [])) next after last end → Left line at b (g ∷ fs) last end
+  others-left w =
+      record {
+        fits = room (f ++ (semicolon ∷ [])) (lineOf (g ∷ fs)) next after both-fit w;
+        whole = λ v. l .whole (rw (line-first f g fs) (joined (f ++ (semicolon ∷ [])) (lineOf (g ∷ fs)) next after both-fit w v));
+      }

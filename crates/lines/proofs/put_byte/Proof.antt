@@ -1,0 +1,22 @@
+-- `lines::put_byte` meets its contract: a store is one byte written.
+use native.Mathlib.Numerals.{add-one}
+use mathlib.Core.Path.{refl}
+use borrow.Author.Needs.{needs}
+use lib.Seq.{set-split}
+use Rattle.lines.proofs.put_byte.Statement.{statement}
+use Rattle.lines.proofs.put_byte.Tie as tie
+
+slice-write-report : tie.Need-slice-write-report
+slice-write-report c = search needs
+
+add-result : tie.Need-add-result
+add-result c = search needs
+
+same-length : tie.Need-same-length
+same-length c = search needs
+
+returns : tie.Need-returns
+returns c = (refl, rw add-one (set-split (c .args .report .now) (c .args .at) (c .args .b) (c .pre)))
+
+pub put-byte-spec : {M : Type 1} → statement M
+put-byte-spec = tie.close (tie.spec slice-write-report add-result same-length returns)

@@ -1,0 +1,35 @@
+-- Bytes written into a lent buffer, and the lines of the report as they are written.
+use Prim.Native.Nat.{_+_}
+use mathlib.Core.List.{[], _∷_, _++_}
+use mathlib.Core.Path.{_≡_}
+use lib.ListN.{length, take, drop}
+use lib.Seq.{slice}
+use Rattle.paper.specs.Units.{Text, Currency, Line, Class, SignedCents, Whole, Cents}
+use Rattle.paper.specs.Text.{ascii, lineOf, digits, signedDigits}
+use Rattle.fields.specs.Places.{Place}
+
+-- A text at a place of a buffer: what stood there gives way to it, all else stays
+abbrev pub written : Text → Place → Text → Text
+written text at buffer = take at buffer ++ (text ++ drop (at + length text) buffer)
+
+-- What writing a text at a place of a buffer gives: the place behind it, and the buffer with it
+abbrev pub Wrote : Text → Place → Text → Place → Text → Type 0
+Wrote text at buffer next after = (next ≡ at + length text) × (after ≡ written text at buffer)
+
+-- The currency at a place of a sheet: three letters
+abbrev pub currencyAt : Text → Place → Currency
+currencyAt sheet at = slice at (at + 3) sheet
+
+-- M;line;currency;mark-to-market, in cents
+abbrev pub markLine : Line → Currency → SignedCents → Text
+markLine line currency mark = lineOf (ascii "M" ∷ digits line ∷ currency ∷ signedDigits mark ∷ [])
+
+-- K;currency;class;long;short;margin, in whole units
+abbrev pub positionLine : Currency → Class → Whole → Whole → Whole → Text
+positionLine currency class long short margin =
+    lineOf (ascii "K" ∷ currency ∷ digits class ∷ digits long ∷ digits short ∷ digits margin ∷ [])
+
+-- Z;currency;mark-to-market;initial;total, in cents, whole units and cents
+abbrev pub totalLine : Currency → SignedCents → Whole → Cents → Text
+totalLine currency mark initial total =
+    lineOf (ascii "Z" ∷ currency ∷ signedDigits mark ∷ digits initial ∷ digits total ∷ [])

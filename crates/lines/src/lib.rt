@@ -1,0 +1,175 @@
+// Lines of the report: numbers as digits, fields and whole lines, written into the lent buffer from a place on.
+// Each function gives the place behind what it wrote.
+use fields::Place;
+ghost use Prim.Native.Nat.{_+_, _≤_, _<_, _^_};
+ghost use mathlib.Core.List.{[], _∷_, _++_};
+ghost use lib.IntN.{natAbs};
+ghost use lib.ListN.{length};
+ghost use Rattle.paper.specs.Text.{semicolon, digits, signedDigits};
+ghost use Rattle.lines.specs.Written.{Wrote, currencyAt, markLine, positionLine, totalLine};
+
+// One byte.
+fn put_byte(
+    report: &mut [u8],
+    at: Place, // in the report
+    b: u8, // a byte
+) -> Place
+    requires { ⌜ at < length (now report) ⌝ }
+    ensures { λ r. ⌜ Wrote (b ∷ []) at (now (report .entry)) r (now (report .exit)) ⌝ }
+{
+    report[at] = b;
+    at + 1
+}
+
+// Two bytes.
+fn put_two(
+    report: &mut [u8],
+    at: Place, // in the report
+    a: u8, // a byte
+    b: u8, // a byte
+) -> Place
+    requires { ⌜ at + 2 ≤ length (now report) ⌝ }
+    ensures { λ r. ⌜ Wrote (a ∷ b ∷ []) at (now (report .entry)) r (now (report .exit)) ⌝ }
+{
+    let second = put_byte(report, at, a);
+    put_byte(report, second, b)
+}
+
+// The digit of a number below ten.
+fn put_digit(
+    report: &mut [u8],
+    at: Place, // in the report
+    n: u64, // any unit
+) -> Place
+    requires { ⌜ (n < 10) × (at < length (now report)) ⌝ }
+    ensures { λ r. ⌜ Wrote ((48 + n) ∷ []) at (now (report .entry)) r (now (report .exit)) ⌝ }
+{
+    put_byte(report, at, (48 + n) as u8)
+}
+
+// A number: the digits of its tens, then that of its ones.
+fn put_number(
+    report: &mut [u8],
+    at: Place, // in the report
+    n: u64, // any unit
+) -> Place
+    requires { ⌜ at + length (digits n) ≤ length (now report) ⌝ }
+    ensures { λ r. ⌜ Wrote (digits n) at (now (report .entry)) r (now (report .exit)) ⌝ }
+{
+    if n < 10 {
+        return put_digit(report, at, n);
+    }
+    let last = put_number(report, at, n / 10);
+    put_digit(report, last, n % 10)
+}
+
+// A number and the byte that ends its field.
+fn put_field(
+    report: &mut [u8],
+    at: Place, // in the report
+    n: u64, // any unit
+    end: u8, // a byte
+) -> Place
+    requires { ⌜ at + length (digits n ++ (end ∷ [])) ≤ length (now report) ⌝ }
+    ensures { λ r. ⌜ Wrote (digits n ++ (end ∷ [])) at (now (report .entry)) r (now (report .exit)) ⌝ }
+{
+    let behind = put_number(report, at, n);
+    put_byte(report, behind, end)
+}
+
+// A signed number and the byte that ends its field.
+fn put_signed_field(
+    report: &mut [u8],
+    at: Place, // in the report
+    z: i64, // any unit
+    end: u8, // a byte
+) -> Place
+    requires { ⌜ natAbs z < 2 ^ 63 ⌝ }
+    requires { ⌜ at + length (signedDigits z ++ (end ∷ [])) ≤ length (now report) ⌝ }
+    ensures { λ r. ⌜ Wrote (signedDigits z ++ (end ∷ [])) at (now (report .entry)) r (now (report .exit)) ⌝ }
+{
+    if z < 0 {
+        let size = whole::below_zero(z); // any unit
+        let first = put_byte(report, at, 45);
+        return put_field(report, first, size, end);
+    }
+    put_field(report, at, whole::above_zero(z), end)
+}
+
+// The three letters of the currency at a place of the sheet, and `;`.
+fn put_currency(
+    report: &mut [u8],
+    at: Place, // in the report
+    s: &[u8],
+    from: Place, // in the sheet
+) -> Place
+    requires { ⌜ from + 3 ≤ length (now s) ⌝ }
+    requires { ⌜ at + length (currencyAt (now s) from ++ (semicolon ∷ [])) ≤ length (now report) ⌝ }
+    ensures { λ r. ⌜ Wrote (currencyAt (now (s .entry)) from ++ (semicolon ∷ [])) at (now (report .entry)) r (now (report .exit)) ⌝ }
+{
+    let third = put_two(report, at, s[from], s[from + 1]);
+    put_two(report, third, s[from + 2], 59)
+}
+
+// The mark-to-market of the trade on a line of the sheet.
+pub fn mark_line(
+    report: &mut [u8],
+    at: Place, // in the report
+    s: &[u8],
+    currency: Place, // in the sheet
+    line: u64, // of the sheet, from 1
+    mark: i64, // cents
+) -> Place
+    requires { ⌜ (natAbs mark < 2 ^ 63) × (currency + 3 ≤ length (now s)) ⌝ }
+    requires { ⌜ at + length (markLine line (currencyAt (now s) currency) mark) ≤ length (now report) ⌝ }
+    ensures { λ r. ⌜ Wrote (markLine line (currencyAt (now (s .entry)) currency) mark) at (now (report .entry)) r (now (report .exit)) ⌝ }
+{
+    let first = put_two(report, at, 77, 59);
+    let second = put_field(report, first, line, 59);
+    let third = put_currency(report, second, s, currency);
+    put_signed_field(report, third, mark, 10)
+}
+
+// A class's positions in a currency, and its margin.
+pub fn position_line(
+    report: &mut [u8],
+    at: Place, // in the report
+    s: &[u8],
+    currency: Place, // in the sheet
+    class: u64, // from 1
+    long: u64, // whole units
+    short: u64, // whole units
+    margin: u64, // whole units
+) -> Place
+    requires { ⌜ currency + 3 ≤ length (now s) ⌝ }
+    requires { ⌜ at + length (positionLine (currencyAt (now s) currency) class long short margin) ≤ length (now report) ⌝ }
+    ensures { λ r. ⌜ Wrote (positionLine (currencyAt (now (s .entry)) currency) class long short margin) at (now (report .entry)) r (now (report .exit)) ⌝ }
+{
+    let first = put_two(report, at, 75, 59);
+    let second = put_currency(report, first, s, currency);
+    let third = put_field(report, second, class, 59);
+    let fourth = put_field(report, third, long, 59);
+    let fifth = put_field(report, fourth, short, 59);
+    put_field(report, fifth, margin, 10)
+}
+
+// A currency's totals.
+pub fn total_line(
+    report: &mut [u8],
+    at: Place, // in the report
+    s: &[u8],
+    currency: Place, // in the sheet
+    mark: i64, // cents
+    initial: u64, // whole units
+    total: u64, // cents
+) -> Place
+    requires { ⌜ (natAbs mark < 2 ^ 63) × (currency + 3 ≤ length (now s)) ⌝ }
+    requires { ⌜ at + length (totalLine (currencyAt (now s) currency) mark initial total) ≤ length (now report) ⌝ }
+    ensures { λ r. ⌜ Wrote (totalLine (currencyAt (now (s .entry)) currency) mark initial total) at (now (report .entry)) r (now (report .exit)) ⌝ }
+{
+    let first = put_two(report, at, 90, 59);
+    let second = put_currency(report, first, s, currency);
+    let third = put_signed_field(report, second, mark, 59);
+    let fourth = put_field(report, third, initial, 59);
+    put_field(report, fourth, total, 10)
+}
