@@ -4,7 +4,7 @@ use mathlib.Core.List.{[], _∷_, _++_}
 use mathlib.Core.Path.{_≡_}
 use lib.ListN.{length, take, drop}
 use lib.Seq.{slice}
-use Rattle.paper.specs.Units.{Text, Currency, Line, Class, SignedCents, Whole, Cents}
+use Rattle.paper.specs.Units.{Text, Currency, Number, Line, Class, SignedCents, Whole, Cents}
 use Rattle.paper.specs.Text.{ascii, lineOf, digits, signedDigits}
 use Rattle.fields.specs.Places.{Place}
 
@@ -33,3 +33,7 @@ positionLine currency class long short margin =
 abbrev pub totalLine : Currency → SignedCents → Whole → Cents → Text
 totalLine currency mark initial total =
     lineOf (ascii "Z" ∷ currency ∷ signedDigits mark ∷ digits initial ∷ digits total ∷ [])
+
+-- N;refusal;line, which the forecast prints alone
+abbrev pub refusalLine : Number → Line → Text
+refusalLine number line = lineOf (ascii "N" ∷ digits number ∷ digits line ∷ [])

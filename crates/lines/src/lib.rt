@@ -6,7 +6,7 @@ ghost use mathlib.Core.List.{[], _∷_, _++_};
 ghost use lib.IntN.{natAbs};
 ghost use lib.ListN.{length};
 ghost use Rattle.paper.specs.Text.{semicolon, digits, signedDigits};
-ghost use Rattle.lines.specs.Written.{Wrote, currencyAt, markLine, positionLine, totalLine};
+ghost use Rattle.lines.specs.Written.{Wrote, currencyAt, markLine, positionLine, totalLine, refusalLine};
 
 // One byte.
 fn put_byte(
@@ -172,4 +172,19 @@ pub fn total_line(
     let third = put_signed_field(report, second, mark, 59);
     let fourth = put_field(report, third, initial, 59);
     put_field(report, fourth, total, 10)
+}
+
+// A refusal, as the forecast prints it.
+pub fn refusal_line(
+    report: &mut [u8],
+    at: Place, // in the report
+    number: u64, // of the refusal
+    line: u64, // of the sheet, 0 where it has none
+) -> Place
+    requires { ⌜ at + length (refusalLine number line) ≤ length (now report) ⌝ }
+    ensures { λ r. ⌜ Wrote (refusalLine number line) at (now (report .entry)) r (now (report .exit)) ⌝ }
+{
+    let first = put_two(report, at, 78, 59);
+    let second = put_field(report, first, number, 59);
+    put_field(report, second, line, 10)
 }

@@ -16,7 +16,7 @@ module _ {A : Type 0} (make : ℕ → A) where
   ranks-many (suc many) rank = ap suc (ranks-many many (suc rank))
 
   -- One more stands at the end
-  ranks-more : (many rank : ℕ) → fromRank make (suc many) rank ≡ fromRank make many rank ++ (make (rank + many) ∷ [])
+  pub ranks-more : (many rank : ℕ) → fromRank make (suc many) rank ≡ fromRank make many rank ++ (make (rank + many) ∷ [])
   ranks-more zero rank = let here : rank ≡ rank + 0 = omega arith in ap (λ (n : ℕ). make n ∷ []) here
   ranks-more (suc many) rank =
       let behind : suc rank + many ≡ rank + suc many = omega arith in

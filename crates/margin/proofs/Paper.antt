@@ -48,18 +48,18 @@ use Rattle.margin.proofs.Summed.{total-held, nets-held}
 use Rattle.margin.proofs.Ranged.{class-most, trade-placed}
 
 -- The tables as the code holds them
-abbrev sheetOf : Text → Tables → Sheet
+abbrev pub sheetOf : Text → Tables → Sheet
 sheetOf sheet t = heldSheet sheet (accepted t)
 
 -- Where the O section and the S section start
 abbrev prioritiesFrom : Text → Tables → Place
 prioritiesFrom sheet t = nextAfter sheet (lineAt sheet 6 .next) (length (t .classes))
 
-abbrev securitiesFrom : Text → Tables → Place
+abbrev pub securitiesFrom : Text → Tables → Place
 securitiesFrom sheet t = nextAfter sheet (prioritiesFrom sheet t) (length (t .priorities))
 
 -- The places of the codes of the securities
-abbrev codesOf : Text → Tables → List Place
+abbrev pub codesOf : Text → Tables → List Place
 codesOf sheet t = take (sheetOf sheet t .securities .count) (sheetOf sheet t .securities .codes)
 
 -- The trades
@@ -67,18 +67,18 @@ abbrev tradesOf : Text → Tables → List Trade
 tradesOf sheet t = take (sheetOf sheet t .trades .count) (sheetOf sheet t .trades .rows)
 
 -- An S row and a T row of the line at a place
-abbrev securityAt : Text → Tables → Place → SecurityRow → Security
+abbrev pub securityAt : Text → Tables → Place → SecurityRow → Security
 securityAt sheet t = securities.heldFound sheet (t .classes) (currencies (t .securities))
 
-abbrev tradeAt : Text → Tables → Place → TradeRow → Trade
+abbrev pub tradeAt : Text → Tables → Place → TradeRow → Trade
 tradeAt sheet t = trades.heldFound sheet (day (t .date)) (codesOf sheet t)
 
 -- The line of the first trade
-abbrev tradesLine : Tables → Line
+abbrev pub tradesLine : Tables → Line
 tradesLine t = 3 + length (t .classes) + length (t .priorities) + length (t .securities)
 
 -- What is known of a T row of the line at a place
-abbrev KnownIn : Text → Tables → Place → TradeRow → Type 0
+abbrev pub KnownIn : Text → Tables → Place → TradeRow → Type 0
 KnownIn sheet t = Known sheet (day (t .date)) (t .securities) (codesOf sheet t)
 
 -- The figures of a currency, from its mark-to-market sum in cents, its remaining positions and its class margins in whole units
@@ -108,7 +108,7 @@ module _ (sheet : Text) (t : Tables) (admitted : Admitted t) (told : Told sheet 
   rows-held : take (length (t .securities)) (sheetOf sheet t .securities .rows) ≡ heldFrom (securityAt sheet t) sheet (securitiesFrom sheet t) (t .securities)
   rows-held = rows-front (securityAt sheet t) sheet 200 noSecurity (securitiesFrom sheet t) (t .securities) (facts .few-securities)
 
-  securities-held : SecuritiesHeld sheet (t .classes) (t .securities) (codesOf sheet t) (sheetOf sheet t .securities .rows)
+  pub securities-held : SecuritiesHeld sheet (t .classes) (t .securities) (codesOf sheet t) (sheetOf sheet t .securities .rows)
   securities-held =
       record {
         line-at = nextAfter sheet (securitiesFrom sheet t);
@@ -125,7 +125,7 @@ module _ (sheet : Text) (t : Tables) (admitted : Admitted t) (told : Told sheet 
   trades-held = rows-front (tradeAt sheet t) sheet 500 noTrade (sheetOf sheet t .securities .next) (t .trades) (facts .few-trades)
 
   -- What is known of each trade
-  trades-known : EachFrom (KnownIn sheet t) sheet (sheetOf sheet t .securities .next) (t .trades)
+  pub trades-known : EachFrom (KnownIn sheet t) sheet (sheetOf sheet t .securities .next) (t .trades)
   trades-known =
       map-from
       (λ at r p. trade-known sheet (day (t .date)) (t .securities) (codesOf sheet t) (told .securities .texts) at r (p .0) (p .1 .0) (p .1 .1))

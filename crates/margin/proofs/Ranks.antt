@@ -82,7 +82,7 @@ rises-at (one-more e rest) zero (suc k) l h = rises-low rest k (omega arith)
 rises-at (one-more e rest) (suc j) (suc k) l h = rises-at rest j k (omega arith) (omega arith)
 
 -- A currency that is there stands at its rank
-rank-place : (ds : List Currency) (c : Currency) → rankIn ds c < length ds → getD ds (rankIn ds c) [] ≡ c
+pub rank-place : (ds : List Currency) (c : Currency) → rankIn ds c < length ds → getD ds (rankIn ds c) [] ≡ c
 rank-place [] c h = absurd (omega arith)
 rank-place (d ∷ ds) c h = go (same d c) refl (rank-place ds c)
   where
@@ -141,7 +141,7 @@ inserted-room money rank p low room =
     )
 
 -- ... and so one after the other
-money-room : (sheet : Text) (ps : List Place) (money : Currencies) → money .count ≤ length (money .places)
+pub money-room : (sheet : Text) (ps : List Place) (money : Currencies) → money .count ≤ length (money .places)
     → let all = inTurn (λ at c. withMoney sheet c at) ps money in all .count ≤ length (all .places)
 money-room sheet [] money room = room
 money-room sheet (p ∷ ps) money room =

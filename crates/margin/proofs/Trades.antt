@@ -108,12 +108,12 @@ abbrev pub figures : Bool → paper-values.Valued → Valued
 figures own v = elim own [ false ↦ record { worth = pos 0; mark = pos 0 } | true ↦ record { worth = v .signedWorth; mark = v .mark } ]
 
 -- The paper's list of margined trades: one that is not margined is left out, and one that is comes first
-valued-out : (today : Day) (ss : List SecurityRow) (line : Line) (r : TradeRow) (rs : List TradeRow) → margined today r ≡ false
+pub valued-out : (today : Day) (ss : List SecurityRow) (line : Line) (r : TradeRow) (rs : List TradeRow) → margined today r ≡ false
     → valuedFrom today ss line (r ∷ rs) ≡ valuedFrom today ss (suc line) rs
 unfolding valuedFrom
 valued-out today ss line r rs e = rw (e, valuedFrom)
 
-valued-own : (today : Day) (ss : List SecurityRow) (line : Line) (r : TradeRow) (rs : List TradeRow) (s : SecurityRow) → margined today r ≡ true
+pub valued-own : (today : Day) (ss : List SecurityRow) (line : Line) (r : TradeRow) (rs : List TradeRow) (s : SecurityRow) → margined today r ≡ true
     → securityOf ss (r .code) ≡ some s → valuedFrom today ss line (r ∷ rs) ≡ valued today line r s ∷ valuedFrom today ss (suc line) rs
 unfolding valuedFrom
 valued-own today ss line r rs s e found = rw (e, found, valuedFrom)

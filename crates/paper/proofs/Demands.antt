@@ -31,7 +31,7 @@ use Rattle.paper.proofs.Reordering.{Reordered, Apart, same-length, same
 use Rattle.paper.proofs.Offsetting.{taken-there, row-conserves, row-lowers, rows-keep, rows-reordered, same-offsets}
 
 -- The kit gives the answer of document 01, whatever the sheet and the buffer
-gives-answer : (sheet buffer : Text) (a : Answer) → answer (length buffer) sheet ≡ a → Gives kit sheet buffer a
+pub gives-answer : (sheet buffer : Text) (a : Answer) → answer (length buffer) sheet ≡ a → Gives kit sheet buffer a
 unfolding kit
 gives-answer sheet buffer a e = ap (λ (a : Answer). (numberOf a, bufferAfter a buffer)) e
 
@@ -56,7 +56,7 @@ tables-admitted room sheet t e =
     let same = judged-accepted 0 sheet s (roomRules room sheet) e1 .0 in
     subst (λ (s : Text). Admitted t × (s ≡ sheetOf t)) (sym same) (read-written s t k1)
 
-is-answer : (room : Room) (sheet : Text) → IsAnswer (answer room sheet)
+pub is-answer : (room : Room) (sheet : Text) → IsAnswer (answer room sheet)
 is-answer room sheet = go (tablesOf room sheet) (tables-sound room sheet) (tables-admitted room sheet)
   where
     go : (o : Outcome Tables) → Sound 65_536 o → ((t : Tables) → o ≡ accepted t → Admitted t × (sheet ≡ sheetOf t))

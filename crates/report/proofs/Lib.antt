@@ -1,0 +1,5 @@
+pub mod Loops
+pub mod Held
+pub mod PaperTables
+pub mod Paper
+pub mod PaperWritable

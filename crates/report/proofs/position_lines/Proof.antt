@@ -1,0 +1,131 @@
+-- `report::position_lines` meets its contract. The loop's invariant: the K lines of the first `i` classes are written. The measure is
+-- the classes left.
+use Prim.Native.Nat.{ℕ, _-_, _≤_}
+use native.Mathlib.Omega.{arith}
+use mathlib.Core.List.{List}
+use mathlib.Core.Path.{_≡_}
+use lib.ListN.{getD}
+use Rattle.paper.specs.Units.{Text, Whole}
+use Rattle.fields.specs.Places.{Place}
+use Rattle.sections.specs.Tables.{noClass}
+use Rattle.sections.specs.declared.Classes.{Classes}
+use Rattle.lines.specs.Written.{Wrote, currencyAt, positionLine}
+use Rattle.report.specs.Texts.{positionText}
+use Rattle.report.proofs.Loops.{as-long, none-written, texts, turn-room, turn}
+use Rattle.report.proofs.position_lines.Statement.{statement}
+use Rattle.report.proofs.position_lines.Tie as tie
+
+-- The K line of the class at a place, by the columns that the locals hold: whole units
+abbrev textAt : Text → Place → Classes → List Whole → List Whole → List Whole → ℕ → Text
+textAt s currency classes long short margins i =
+    let class = getD (classes .rows) i noClass .class in
+    positionLine (currencyAt s currency) class (getD long class 0) (getD short class 0) (getD margins i 0)
+
+abbrev Inv-loop : tie.InvT-loop
+Inv-loop report₀ from s currency classes rows long short margins at₀ i₀ report at i =
+    (i ≤ classes .count) × Wrote (texts (textAt s currency classes long short margins) i) from report₀ at report
+
+abbrev μ-loop : tie.MeasureT-loop
+μ-loop report₀ from s currency classes rows long short margins at₀ i₀ report at i = classes .count - i
+
+-- Where the function began, from the loop
+abbrev begin : tie.At-loop Inv-loop μ-loop → tie.Start Inv-loop μ-loop
+begin l = l .before .before .before .before .before .before .before
+
+-- The K line of each class, and how many they are, by the arguments
+abbrev text : tie.Start Inv-loop μ-loop → ℕ → Text
+text s = positionText (currencyAt (s .args .s .now) (s .args .currency)) (s .args .classes) (s .args .figures)
+
+abbrev many : tie.Start Inv-loop μ-loop → ℕ
+many s = s .args .classes .count
+
+-- The class of a row is at most 40
+class-most : (s : tie.Start Inv-loop μ-loop) (i : ℕ) → getD (s .args .classes .rows) i noClass .class ≤ 40
+class-most s i = s .pre .0 .1 .class i
+
+loop-holds : tie.Need-loop-holds Inv-loop μ-loop
+loop-holds c =
+    let a = c .before .before .before .before .before .before .args in
+    (omega arith, none-written (a .from) (a .report .now))
+
+mul-row : tie.Need-mul-row Inv-loop μ-loop
+mul-row c = omega (arith, begin (c .before .before) .pre .0 .1 .few)
+
+array-copy-out-row : tie.Need-array-copy-out-row Inv-loop μ-loop
+array-copy-out-row c = omega (arith, begin (c .before .before) .pre .0 .1 .few)
+
+mul-position-line : tie.Need-mul-position-line Inv-loop μ-loop
+mul-position-line c = let l = c .before .before .before .before in omega (arith, class-most (begin l) (l .loop .i))
+
+array-read-position-line : tie.Need-array-read-position-line Inv-loop μ-loop
+array-read-position-line c = let l = c .before .before .before .before in omega (arith, class-most (begin l) (l .loop .i))
+
+mul-position-line-2 : tie.Need-mul-position-line-2 Inv-loop μ-loop
+mul-position-line-2 c = let l = c .before .before .before .before in omega (arith, class-most (begin l) (l .loop .i))
+
+array-read-position-line-2 : tie.Need-array-read-position-line-2 Inv-loop μ-loop
+array-read-position-line-2 c = let l = c .before .before .before .before in omega (arith, class-most (begin l) (l .loop .i))
+
+mul-position-line-3 : tie.Need-mul-position-line-3 Inv-loop μ-loop
+mul-position-line-3 c = omega (arith, begin (c .before .before .before .before) .pre .0 .1 .few)
+
+array-read-position-line-3 : tie.Need-array-read-position-line-3 Inv-loop μ-loop
+array-read-position-line-3 c = omega (arith, begin (c .before .before .before .before) .pre .0 .1 .few)
+
+position-line-requires : tie.Need-position-line-requires Inv-loop μ-loop
+position-line-requires c κs =
+    let l = c .before .before .before .before in
+    let s = begin l in
+    (s .pre .0 .0, turn-room (text s) (many s) (s .args .from) (s .args .report .now) (s .pre .1) (l .loop .i) (c .before .before .if1 .taken) (l .loop .inv .1))
+
+add-i : tie.Need-add-i Inv-loop μ-loop
+add-i c = omega (arith, begin (c .before .before .before .before .before .before .before) .pre .0 .1 .few)
+
+loop-less : tie.Need-loop-less Inv-loop μ-loop
+loop-less c = omega arith
+
+loop-again : tie.Need-loop-again Inv-loop μ-loop
+loop-again c =
+    let written = c .before .before in
+    let more = written .before .before .before .if1 .taken in
+    let l = written .before .before .before .before .before in
+    let s = begin l in
+    (omega (arith, more), turn (text s) (many s) (s .args .from) (s .args .report .now) (s .pre .1) (l .loop .i) more (l .loop .inv .1) (written .position-line .ensures))
+
+-- At the end the lines of all classes are written
+all-written : (c : tie.Else1 Inv-loop μ-loop) → let l = c .before .before in let s = begin l in
+    Wrote (texts (text s) (many s)) (s .args .from) (s .args .report .now) (l .loop .at) (l .loop .report)
+all-written c =
+    let l = c .before .before in
+    let all : l .loop .i ≡ many (begin l) = omega arith in
+    rw all at (l .loop .inv .1)
+
+same-length : tie.Need-same-length Inv-loop μ-loop
+same-length c =
+    let s = begin (c .before .before) in
+    as-long (texts (text s) (many s)) (s .args .from) (s .args .report .now) (s .pre .1) (all-written c)
+
+returns : tie.Need-returns Inv-loop μ-loop
+returns c = all-written c
+
+pub position-lines-spec : {M : Type 1} → statement M
+position-lines-spec =
+    tie.close
+    (tie.spec
+    Inv-loop
+    μ-loop
+    loop-holds
+    mul-row
+    array-copy-out-row
+    mul-position-line
+    array-read-position-line
+    mul-position-line-2
+    array-read-position-line-2
+    mul-position-line-3
+    array-read-position-line-3
+    position-line-requires
+    add-i
+    loop-less
+    loop-again
+    same-length
+    returns)
