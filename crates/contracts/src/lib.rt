@@ -1,0 +1,1 @@
+// Claims only: two answers that one contract allows are equal.

@@ -1,0 +1,34 @@
+//! Holds the kit against the plain implementation on as many generated sheets as asked for:
+//! `cargo run --release --bin agree -- SHEETS [SEED]`. A case that differs is printed and ends the run.
+
+use gronnhyl_host::sheets::case;
+use gronnhyl_host::together::{Tally, Together};
+use std::io::Write;
+use std::process::ExitCode;
+
+const USUAL_SEED: u64 = 1;
+
+fn main() -> ExitCode {
+    let mut words = std::env::args().skip(1);
+    let sheets = words.next().map(|word| word.parse::<u64>());
+    let seed = words.next().map_or(Ok(USUAL_SEED), |word| word.parse());
+    let (Some(Ok(sheets)), Ok(seed), None) = (sheets, seed, words.next()) else {
+        eprintln!("agree SHEETS [SEED]");
+        return ExitCode::from(2);
+    };
+    println!("seed {seed}, {sheets} sheets");
+    let (mut together, mut tally) = (Together::default(), Tally::default());
+    for number in 0..sheets {
+        let case = case(seed, number);
+        match together.run(&case) {
+            Ok(answer) => tally.add(answer),
+            Err(wrong) => {
+                println!("seed {seed}, case {number}, room {}: {wrong}", case.room);
+                let _ = std::io::stdout().write_all(&case.sheet);
+                return ExitCode::FAILURE;
+            }
+        }
+    }
+    println!("{tally}\nall agree");
+    ExitCode::SUCCESS
+}

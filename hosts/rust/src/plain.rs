@@ -1,0 +1,33 @@
+//! Document 01 in plain safe Rust, written for speed: the kit is held against its answers and against its time.
+//!
+//! One pass over the sheet fills tables of fixed size, the figures are worked out from the tables, and only then is
+//! the report written; nothing is allocated. The three steps are public so that each can be timed.
+
+#![forbid(unsafe_code)]
+
+pub mod days;
+mod fields;
+mod figures;
+mod read;
+mod tables;
+mod write;
+
+pub use figures::{accrued, figures, interest, net, revaluated, share, CurrencyFigures, Figures};
+pub use read::read;
+pub use tables::{Class, Offset, Refusal, Security, Tables, Trade};
+pub use write::write;
+
+/// A buffer of this many bytes holds the report of any sheet.
+pub const LEAST_ROOM: usize = 32_768;
+
+/// The same entry as the kit's: the report's length, or 65,536 × refusal + line and the buffer untouched.
+pub fn brm_margin(sheet: &[u8], report: &mut [u8]) -> u64 {
+    if report.len() < LEAST_ROOM {
+        return Refusal { number: 1, line: 0 }.answer();
+    }
+    let mut tables = Tables::EMPTY;
+    match read(sheet, &mut tables) {
+        Err(refusal) => refusal.answer(),
+        Ok(()) => write(&tables, &figures(&tables), report) as u64,
+    }
+}

@@ -1,0 +1,212 @@
+//! The generator's own check: that its sheets reach every end of every range, every rounding tie and every turn of
+//! the rules. Without it, agreement on many sheets could mean agreement on few things.
+
+use gronnhyl_host::plain::{self, days, Tables};
+use gronnhyl_host::sheets::case;
+use std::collections::BTreeMap;
+
+const SEED: u64 = 20_190_612;
+const SHEETS: u64 = 40_000;
+
+#[derive(Default)]
+struct Seen(BTreeMap<String, u64>);
+
+impl Seen {
+    fn note(&mut self, what: &str, is: bool) {
+        let count = self.0.entry(what.to_string()).or_default();
+        *count += is as u64;
+    }
+}
+
+/// The smallest and the largest value of each numeric field and of each section's rows, and how they must come out.
+const RANGES: [(&str, i64, i64); 21] = [
+    ("C 1", 1, 40),
+    ("C 3", 1, 1_000_000),
+    ("C 4", 0, 10_000),
+    ("O 1", 1, 40),
+    ("O 2", 1, 40),
+    ("O 3", 0, 10_000),
+    ("S 4", 1, 1_000_000),
+    ("S 5", 1, 20_000_000),
+    ("S 6", 0, 2_000_000),
+    ("S 7", 1, 4),
+    ("S 8", 20000101, 23991230),
+    ("S 9", 20000102, 23991231),
+    ("T 4", 1, 100_000_000),
+    ("T 5", 1, 30_000_000_000),
+    ("T 6", 20000101, 23991230),
+    ("T 7", 20000102, 23991231),
+    ("T 8", -200_000, 200_000),
+    ("C rows", 0, 40),
+    ("O rows", 0, 200),
+    ("S rows", 0, 200),
+    ("T rows", 0, 500),
+];
+
+#[test]
+fn the_generator_reaches_everything() {
+    let mut seen = Seen::default();
+    let mut ranges: BTreeMap<String, (i64, i64)> = BTreeMap::new();
+    let mut lines: BTreeMap<u64, (u64, u64)> = BTreeMap::new();
+    let mut report = vec![0; 100_000];
+    for number in 0..SHEETS {
+        let case = case(SEED, number);
+        let answer = plain::brm_margin(&case.sheet, &mut report[..case.room]);
+        if answer >= 65_536 {
+            let (refusal, line) = (answer / 65_536, answer % 65_536);
+            let (first, last) = lines.entry(refusal).or_insert((line, line));
+            (*first, *last) = (line.min(*first), line.max(*last));
+            continue;
+        }
+        let mut tables = Tables::EMPTY;
+        assert!(plain::read(&case.sheet, &mut tables).is_ok());
+        figures(&tables, &mut seen);
+        text(&case.sheet, &mut seen, &mut ranges);
+    }
+    println!("{:#?}\n{ranges:?}\nearliest and latest line of each refusal: {lines:?}", seen.0);
+    let never: Vec<_> = seen.0.iter().filter(|(_, &count)| count == 0).collect();
+    assert!(never.is_empty(), "never seen: {never:?}");
+    for (field, least, most) in RANGES {
+        assert_eq!(ranges.get(field), Some(&(least, most)), "{field}");
+    }
+    for refusal in 1..=12 {
+        let (first, last) = lines[&refusal];
+        match refusal {
+            1 | 2 => assert_eq!((first, last), (0, 0)),
+            3 | 4 => assert_eq!((first, last), (1, 1)),
+            5 | 6 | 7 | 8 | 10 | 12 => assert!(first <= 43 && last >= 900, "refusal {refusal}: {first} to {last}"),
+            _ => assert!(first <= 5 && last >= 40, "refusal {refusal}: {first} to {last}"),
+        }
+    }
+}
+
+/// Rounding ties, and what the positions look like.
+fn figures(tables: &Tables, seen: &mut Seen) {
+    let mut nets = vec![0i64; tables.security_count]; // cents
+    for trade in &tables.trades[..tables.trade_count] {
+        let security = &tables.securities[trade.security as usize];
+        let run = trade.accrual - security.previous;
+        let divisor = security.payments * (security.next - security.previous);
+        let accrued = plain::accrued(security, trade.accrual);
+        seen.note("accrued coupon at a half", 2 * (security.coupon * run) % (2 * divisor) == divisor);
+        seen.note("accrual on the previous coupon date", run == 0);
+        seen.note("accrual on the day before the next", trade.accrual + 1 == security.next);
+        let worth = trade.nominal as u64 * (security.price + accrued) as u64;
+        seen.note("revaluated amount at a half", worth % 100_000 == 50_000);
+        let interest = trade.interest_days as u64 * trade.amount * trade.rate.unsigned_abs() as u64;
+        let half = interest % 36_000_000_000 == 18_000_000_000;
+        seen.note("interest at a half above zero", half && trade.rate > 0);
+        seen.note("interest at a half below zero", half && trade.rate < 0);
+        let cents = plain::revaluated(trade.nominal, security.price, accrued) as i64;
+        nets[trade.security as usize] += if trade.long { cents } else { -cents };
+    }
+    for &cents in &nets {
+        seen.note("net at a half above zero", cents > 0 && cents % 100 == 50);
+        seen.note("net at a half below zero", cents < 0 && cents % 100 == -50);
+        seen.note("net of -50 cents", cents == -50);
+        seen.note("net of -49 to -1 cents", (-49..0).contains(&cents));
+    }
+    for currency in 0..tables.currency_count {
+        let mut long = vec![0u64; tables.class_count];
+        let mut short = vec![0u64; tables.class_count];
+        for (security, &cents) in tables.securities.iter().zip(&nets).filter(|(s, _)| s.currency as usize == currency) {
+            let net = plain::net(cents);
+            let side = if net < 0 { &mut short } else { &mut long };
+            side[security.class as usize] += net.unsigned_abs();
+        }
+        for row in &tables.offsets[..tables.offset_count] {
+            let (one, two) = (row.first as usize, row.second as usize);
+            let pairs = if one == two { vec![(one, one)] } else { vec![(one, two), (two, one)] };
+            let all: Vec<u64> = pairs.iter().map(|&(of, and)| long[of].min(short[and])).collect();
+            seen.note("an offset of one class", one == two && all[0] > 0 && row.factor > 0);
+            seen.note("an offset of a pair", one != two && all[0] > 0 && row.factor > 0);
+            seen.note("an offset both ways", one != two && all[0] > 0 && all[1] > 0 && row.factor > 0);
+            seen.note("an offset by factor 0", all[0] > 0 && row.factor == 0);
+            seen.note("an offset by factor 10,000", all[0] > 0 && row.factor == 10_000);
+            for ((of, and), least) in pairs.into_iter().zip(all) {
+                let taken = plain::share(row.factor, least);
+                seen.note("an offset at a half", row.factor as u64 * least % 10_000 == 5_000);
+                long[of] -= taken;
+                short[and] -= taken;
+            }
+        }
+        for ((class, &long), &short) in tables.classes.iter().zip(&long).zip(&short) {
+            let margin = class.deposit as u64 * long.max(short);
+            seen.note("a class margin at a half", margin % 10_000 == 5_000);
+            seen.note("both sides remain, long larger", long > short && short > 0);
+            seen.note("both sides remain, short larger", short > long && long > 0);
+        }
+        let figures = &plain::figures(tables).currencies[currency];
+        seen.note("a total of zero by its floor", figures.total == 0 && figures.mark > 100 * figures.initial as i64);
+        seen.note("a total above zero", figures.total > 0);
+        seen.note("a mark-to-market sum below zero", figures.mark < 0);
+    }
+    seen.note("eight currencies", tables.currency_count == 8);
+    seen.note("500 margined trades", tables.trade_count == 500);
+}
+
+/// Dates and ranges, from the rows as they are written.
+fn text(sheet: &[u8], seen: &mut Seen, ranges: &mut BTreeMap<String, (i64, i64)>) {
+    let mut spread = |field: String, value: i64| {
+        let (least, most) = ranges.entry(field).or_insert((value, value));
+        (*least, *most) = (value.min(*least), value.max(*most));
+    };
+    let sheet = std::str::from_utf8(sheet).expect("an accepted sheet is plain text");
+    let rows: Vec<Vec<&str>> = sheet.lines().skip(1).map(|line| line.split(';').collect()).collect();
+    let day = |text: &str| days::day(text.as_bytes().try_into().expect("eight digits")).expect("a date");
+    let calculation = day(rows[0][1]);
+    let working = days::working_day_after(calculation);
+    for weekday in 0..7 {
+        seen.note(&format!("calculation on weekday {weekday} after Saturday"), calculation % 7 == weekday);
+    }
+    seen.note("calculation on 20000101", rows[0][1] == "20000101");
+    seen.note("calculation on 23991220", rows[0][1] == "23991220");
+    seen.note("calculation on a leap day", rows[0][1].ends_with("0229"));
+    for letter in ["C", "O", "S", "T"] {
+        spread(format!("{letter} rows"), rows.iter().filter(|row| row[0] == letter).count() as i64);
+    }
+    let borders: Vec<(&str, i64)> = rows
+        .iter()
+        .filter(|row| row[0] == "C" && !row[3].is_empty())
+        .map(|row| (row[2], row[3].parse().expect("a border")))
+        .collect();
+    for row in &rows[1..] {
+        for (place, field) in row.iter().enumerate().skip(1) {
+            if let Ok(value) = field.parse() {
+                spread(format!("{} {place}", row[0]), value);
+            }
+        }
+        if row[0] == "S" {
+            let length = day(row[9]) - day(row[8]);
+            seen.note("a coupon period of a day", length == 1);
+            seen.note("a coupon period of 400 days", length == 400);
+            seen.note("a coupon date on a leap day", row[8].ends_with("0229"));
+            if let Ok(duration) = row[4].parse::<i64>() {
+                seen.note("a duration on its border", borders.contains(&(row[3], duration)));
+                seen.note("a duration just above a border", borders.contains(&(row[3], duration - 1)));
+            }
+            for kind in ["G", "C", "I", "F"] {
+                seen.note(&format!("a security of kind {kind}"), row[3] == kind);
+            }
+        }
+        if row[0] == "T" && row[1] == "C" {
+            let first = day(row[6]);
+            seen.note("cash settled on the calculation date", first == calculation);
+            seen.note("cash settled on the day after", first == calculation + 1);
+            seen.note("cash settled on a leap day", row[6].ends_with("0229"));
+        }
+        if row[0] == "T" && row[1] == "R" {
+            let (first, last) = (day(row[6]), day(row[7]));
+            seen.note("a repo from the calculation date", first == calculation);
+            seen.note("a repo from the day after", first == calculation + 1);
+            seen.note("a repo to the calculation date", last == calculation);
+            seen.note("a repo to the day after", last == calculation + 1 && first <= calculation);
+            let ends_before = first <= calculation && calculation < last && last < working;
+            seen.note("a margined repo that ends before the working day", ends_before);
+            seen.note("a repo of a day", last - first == 1);
+            seen.note("a repo of 730 days", last - first == 730);
+            seen.note("a margined repo of 730 days, accrued to its end", first + 732 == working && last == first + 730);
+            seen.note("a rate of 0", row[8] == "0");
+        }
+    }
+}
