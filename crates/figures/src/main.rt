@@ -22,7 +22,10 @@ fn read_file(name: &[u8], text: &mut [u8]) -> usize
 }
 
 // One case, by the places of its two files among the arguments.
-fn run_case(sheet_place: usize, text_place: usize) {
+fn run_case(
+    sheet_place: usize, // arguments
+    text_place: usize, // arguments
+) {
     let mut sheet_name = io::buffer();
     let mut text_name = io::buffer();
     let mut sheet = [0u8; 65537];

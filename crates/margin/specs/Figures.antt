@@ -75,10 +75,11 @@ remainingFigures cs mark b =
       total = total (margins .initial) mark;
     }
 
--- The rows of a table
+-- The C rows of a table
 abbrev pub classRows : Classes → List ClassRow
 classRows c = take (c .count) (c .rows)
 
+-- The O rows of a table
 abbrev pub priorityRows : Priorities → List PriorityRow
 priorityRows o = take (o .count) (o .rows)
 

@@ -100,8 +100,8 @@ fn sums_of(
 fn columns_of(rows: [Security; 200]) -> Columns
     ensures { λ r. ⌜ r ≡ columnsOf rows ⌝ }
 {
-    let mut classes: [u64; 200] = [0; 200];
-    let mut ranks: [usize; 200] = [0; 200];
+    let mut classes: [u64; 200] = [0; 200]; // 1..40
+    let mut ranks: [usize; 200] = [0; 200]; // currencies
     let mut i: usize = 0; // rows
     while i < 200 {
         let security = rows[i];
