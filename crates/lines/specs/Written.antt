@@ -1,5 +1,5 @@
 -- Bytes written into a lent buffer, and the lines of the report as they are written.
-use Prim.Native.Nat.{_+_}
+use Prim.Native.Nat.{ℕ, _+_, _/_, _%_}
 use mathlib.Core.List.{[], _∷_, _++_}
 use mathlib.Core.Path.{_≡_}
 use lib.ListN.{length, take, drop}
@@ -15,6 +15,14 @@ written text at buffer = take at buffer ++ (text ++ drop (at + length text) buff
 -- What writing a text at a place of a buffer gives: the place behind it, and the buffer with it
 abbrev pub Wrote : Text → Place → Text → Place → Text → Type 0
 Wrote text at buffer next after = (next ≡ at + length text) × (after ≡ written text at buffer)
+
+-- The two digits of a number below a hundred
+abbrev pub pair : ℕ → Text
+pair n = (48 + n / 10) ∷ (48 + n % 10) ∷ []
+
+-- The four digits of a number below ten thousand
+abbrev pub four : ℕ → Text
+four n = pair (n / 100) ++ pair (n % 100)
 
 -- The currency at a place of a sheet: three letters
 abbrev pub currencyAt : Text → Place → Currency

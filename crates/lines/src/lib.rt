@@ -6,7 +6,7 @@ ghost use mathlib.Core.List.{[], _∷_, _++_};
 ghost use lib.IntN.{natAbs};
 ghost use lib.ListN.{length};
 ghost use Rattle.paper.specs.Text.{semicolon, digits, signedDigits};
-ghost use Rattle.lines.specs.Written.{Wrote, currencyAt, markLine, positionLine, totalLine, refusalLine};
+ghost use Rattle.lines.specs.Written.{Wrote, pair, four, currencyAt, markLine, positionLine, totalLine, refusalLine};
 
 // One byte.
 fn put_byte(
@@ -47,7 +47,64 @@ fn put_digit(
     put_byte(report, at, (48 + n) as u8)
 }
 
-// A number: the digits of its tens, then that of its ones.
+// The two digits of a number below a hundred.
+fn put_pair(
+    report: &mut [u8],
+    at: Place, // in the report
+    n: u64, // any unit
+) -> Place
+    requires { ⌜ (n < 100) × (at + 2 ≤ length (now report)) ⌝ }
+    ensures { λ r. ⌜ Wrote (pair n) at (now (report .entry)) r (now (report .exit)) ⌝ }
+{
+    let ones = put_digit(report, at, n / 10);
+    put_digit(report, ones, n % 10)
+}
+
+// The four digits of a number below ten thousand.
+fn put_four(
+    report: &mut [u8],
+    at: Place, // in the report
+    n: u64, // any unit
+) -> Place
+    requires { ⌜ (n < 10_000) × (at + 4 ≤ length (now report)) ⌝ }
+    ensures { λ r. ⌜ Wrote (four n) at (now (report .entry)) r (now (report .exit)) ⌝ }
+{
+    let ones = put_pair(report, at, n / 100);
+    put_pair(report, ones, n % 100)
+}
+
+// A number below a hundred, without a 0 before it.
+fn put_first(
+    report: &mut [u8],
+    at: Place, // in the report
+    n: u64, // any unit
+) -> Place
+    requires { ⌜ (n < 100) × (at + length (digits n) ≤ length (now report)) ⌝ }
+    ensures { λ r. ⌜ Wrote (digits n) at (now (report .entry)) r (now (report .exit)) ⌝ }
+{
+    if n < 10 {
+        return put_digit(report, at, n);
+    }
+    put_pair(report, at, n)
+}
+
+// A number below ten thousand, without a 0 before it.
+fn put_small(
+    report: &mut [u8],
+    at: Place, // in the report
+    n: u64, // any unit
+) -> Place
+    requires { ⌜ (n < 10_000) × (at + length (digits n) ≤ length (now report)) ⌝ }
+    ensures { λ r. ⌜ Wrote (digits n) at (now (report .entry)) r (now (report .exit)) ⌝ }
+{
+    if n < 100 {
+        return put_first(report, at, n);
+    }
+    let ones = put_first(report, at, n / 100);
+    put_pair(report, ones, n % 100)
+}
+
+// A number: the digits of its ten thousands, then four more. Four at a time, as calls and divisions of 64 bits are dear.
 fn put_number(
     report: &mut [u8],
     at: Place, // in the report
@@ -56,11 +113,11 @@ fn put_number(
     requires { ⌜ at + length (digits n) ≤ length (now report) ⌝ }
     ensures { λ r. ⌜ Wrote (digits n) at (now (report .entry)) r (now (report .exit)) ⌝ }
 {
-    if n < 10 {
-        return put_digit(report, at, n);
+    if n < 10000 {
+        return put_small(report, at, n);
     }
-    let last = put_number(report, at, n / 10);
-    put_digit(report, last, n % 10)
+    let last = put_number(report, at, n / 10000);
+    put_four(report, last, n % 10000)
 }
 
 // A number and the byte that ends its field.

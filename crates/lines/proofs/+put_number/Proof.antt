@@ -1,17 +1,18 @@
--- `lines::put_number` meets its contract: below ten a number is one digit, else its tens and behind them its ones.
+-- `lines::put_number` meets its contract: from ten thousand on a number is its ten thousands and behind them four digits.
 -- The measure is the number.
 use Prim.Native.Nat.{ℕ, _+_, _/_, _%_, _≤_, _<_}
 use native.Mathlib.Omega.{arith}
-use mathlib.Core.List.{[], _∷_, _++_}
-use mathlib.Core.Path.{ap}
+use mathlib.Core.List.{_++_}
 use borrow.Author.Needs.{needs}
 use borrow.Fn.Kinds.{In}
 use borrow.Fn.PlainCycle.{Measures, is, falls, and}
 use lib.ListN.{length, length-append}
 use Rattle.paper.specs.Text.{digits}
-use Rattle.lines.proofs.Digits.{digits-one, digits-more}
+use Rattle.lines.specs.Written.{four}
+use Rattle.lines.proofs.Digits.{digits-myriads}
 use Rattle.lines.proofs.Written.{room, joined}
-use Rattle.lines.proofs.put_digit.Reads as put-digit
+use Rattle.lines.proofs.put_four.Reads as put-four
+use Rattle.lines.proofs.put_small.Reads as put-small
 use Rattle.lines.proofs.put_number.Reads as put-number
 use Rattle.lines.proofs.put_number.Kinds as put-number-kinds
 use Rattle.lines.proofs.+put_number.Lts-put_number as lts
@@ -26,44 +27,46 @@ abbrev given : ℕ → In 1 put-number-kinds.ps
 given t = and 1 put-number-kinds.ps (is 1 put-number-kinds.ps μ t) put-number.Pre
 
 abbrev calls : ℕ → lts.Claims
-calls t =
-    (put-digit.Asked, put-digit.Learnt, and 1 put-number-kinds.ps (falls 1 put-number-kinds.ps _<_ μ t) put-number.Pre, put-number.Post)
+calls t = (
+  put-small.Asked,
+  put-small.Learnt,
+  and 1 put-number-kinds.ps (falls 1 put-number-kinds.ps _<_ μ t) put-number.Pre,
+  put-number.Post,
+  put-four.Asked,
+  put-four.Learnt,
+)
 
 module _ (t : ℕ) where
-  put-digit-requires : lts.Need-put-digit-requires (calls t) (given t) put-number.Post
-  put-digit-requires c κs =
-      let s = c .before .before .before in
-      omega (arith, ap length (digits-one (s .args .n) (c .before .if1 .taken)))
+  put-small-requires : lts.Need-put-small-requires (calls t) (given t) put-number.Post
+  put-small-requires c κs = search needs
 
   same-length : lts.Need-same-length (calls t) (given t) put-number.Post
   same-length c = search needs
 
   returns : lts.Need-returns (calls t) (given t) put-number.Post
-  returns c =
-      let digit = c .before .before in
-      let s = digit .before .before .before .before in
-      rw (digits-one (s .args .n) (digit .before .before .if1 .taken)) (digit .put-digit .ensures)
+  returns c = search needs
 
-  -- The tens and the ones fit
+  -- The ten thousands and the four digits fit
   both-fit : (c : lts.Else1 (calls t) (given t) put-number.Post) → (let s = c .before .before in
-      s .args .at + length (digits (s .args .n / 10) ++ ((48 + s .args .n % 10) ∷ [])) ≤ length (s .args .report .now))
+      s .args .at + length (digits (s .args .n / 10_000) ++ four (s .args .n % 10_000)) ≤ length (s .args .report .now))
   both-fit c =
       let s = c .before .before in
-      rw (digits-more (s .args .n) (c .if1 .left)) at (s .pre .1)
+      rw (digits-myriads (s .args .n) (c .if1 .left)) at (s .pre .1)
 
   put-number-requires : lts.Need-put-number-requires (calls t) (given t) put-number.Post
   put-number-requires c κs =
       let n = c .before .before .before .args .n in
-      omega (arith, both-fit (c .before), length-append (digits (n / 10)) ((48 + n % 10) ∷ []))
+      omega (arith, both-fit (c .before), length-append (digits (n / 10_000)) (four (n % 10_000)))
 
-  put-digit-requires-2 : lts.Need-put-digit-requires-2 (calls t) (given t) put-number.Post
-  put-digit-requires-2 c κs =
-      let tens = c .before .before .before in
-      let s = tens .before .before .before .before in
+  put-four-requires : lts.Need-put-four-requires (calls t) (given t) put-number.Post
+  put-four-requires c κs =
+      let myriads = c .before .before .before in
+      let s = myriads .before .before .before .before in
       omega (
         arith,
-        room (digits (s .args .n / 10)) ((48 + s .args .n % 10) ∷ []) (s .args .at) (s .args .report .now) (both-fit (tens .before .before))
-            (tens .put-number .ensures),
+        room (digits (s .args .n / 10_000)) (four (s .args .n % 10_000)) (s .args .at) (s .args .report .now)
+            (both-fit (myriads .before .before))
+            (myriads .put-number .ensures),
       )
 
   same-length-2 : lts.Need-same-length-2 (calls t) (given t) put-number.Post
@@ -71,13 +74,14 @@ module _ (t : ℕ) where
 
   returns-2 : lts.Need-returns-2 (calls t) (given t) put-number.Post
   returns-2 c =
-      let ones = c .before .before in
-      let tens = ones .before .before .before .before in
-      let s = tens .before .before .before .before in
-      rw (digits-more (s .args .n) (tens .before .before .if1 .left))
-      (joined (digits (s .args .n / 10)) ((48 + s .args .n % 10) ∷ []) (s .args .at) (s .args .report .now) (both-fit (tens .before .before))
-      (tens .put-number .ensures)
-      (ones .put-digit2 .ensures))
+      let last = c .before .before in
+      let myriads = last .before .before .before .before in
+      let s = myriads .before .before .before .before in
+      rw (digits-myriads (s .args .n) (myriads .before .before .if1 .left))
+      (joined (digits (s .args .n / 10_000)) (four (s .args .n % 10_000)) (s .args .at) (s .args .report .now)
+      (both-fit (myriads .before .before))
+      (myriads .put-number .ensures)
+      (last .put-four .ensures))
 
 pub +put-number-spec : {M : Type 1} → statement M
 +put-number-spec =
@@ -87,10 +91,10 @@ pub +put-number-spec : {M : Type 1} → statement M
     (calls t)
     (given t)
     put-number.Post
-    (put-digit-requires t)
+    (put-small-requires t)
     (same-length t)
     (returns t)
     (put-number-requires t)
-    (put-digit-requires-2 t)
+    (put-four-requires t)
     (same-length-2 t)
     (returns-2 t))

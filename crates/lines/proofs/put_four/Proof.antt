@@ -1,0 +1,28 @@
+-- `lines::put_four` meets its contract: two digits, and two behind them.
+use Prim.Native.Nat.{_/_, _%_}
+use borrow.Author.Needs.{needs}
+use Rattle.lines.specs.Written.{pair}
+use Rattle.lines.proofs.Written.{joined}
+use Rattle.lines.proofs.put_four.Statement.{statement}
+use Rattle.lines.proofs.put_four.Tie as tie
+
+put-pair-requires : tie.Need-put-pair-requires
+put-pair-requires c κs = search needs
+
+put-pair-requires-2 : tie.Need-put-pair-requires-2
+put-pair-requires-2 c κs = search needs
+
+same-length : tie.Need-same-length
+same-length c = search needs
+
+returns : tie.Need-returns
+returns c =
+    let ones = c .before .before in
+    let hundreds = ones .before .before .before .before in
+    let s = hundreds .before .before .before in
+    joined (pair (s .args .n / 100)) (pair (s .args .n % 100)) (s .args .at) (s .args .report .now) (s .pre .1)
+    (hundreds .put-pair .ensures)
+    (ones .put-pair2 .ensures)
+
+pub put-four-spec : {M : Type 1} → statement M
+put-four-spec = tie.close (tie.spec put-pair-requires put-pair-requires-2 same-length returns)
