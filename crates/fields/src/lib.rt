@@ -57,6 +57,7 @@ pub fn ended(s: &[u8]) -> Place
 }
 
 // The line that starts at a place. An LF stands right before `end`, so that the line has one.
+// Its bytes are looked at by eights: unrolled, that is too long to be put into each caller, where registers run short.
 pub fn line_at(s: &[u8], at: Place, end: Place) -> Line
     requires { ⌜ (at < end) × (end ≤ length (now s)) × (getD (now s) (end - 1) 0 ≡ LF) ⌝ }
     ensures { λ r. ⌜ r ≡ lineAt (now (s .entry)) at ⌝ }
@@ -65,47 +66,56 @@ pub fn line_at(s: &[u8], at: Place, end: Place) -> Line
     let mut count: usize = 0; // fields that ended
     let mut i: Place = at;
     loop {
-        let b = s[i]; // a byte
-        if b == 10 {
-            break;
-        }
-        if b == 59 {
-            if count < 10 {
-                ends[count] = i;
+        let mut k: usize = 0; // bytes of the eight
+        while k < 8 {
+            let b = s[i]; // a byte
+            if b == 10 {
+                if count < 10 {
+                    ends[count] = i;
+                }
+                return Line {
+                    count: count + 1,
+                    ends: ends,
+                    next: i + 1,
+                };
             }
-            count += 1;
+            if b == 59 {
+                if count < 10 { // there are more
+                    ends[count] = i;
+                }
+                count += 1;
+            }
+            i += 1;
+            k += 1;
         }
-        i += 1;
-    }
-    if count < 10 {
-        ends[count] = i;
-    }
-    Line {
-        count: count + 1,
-        ends: ends,
-        next: i + 1,
     }
 }
 
-// Digits as the number that they mean; at most 19, so that it fits.
+// Digits as the number that they mean; at most 19, so that it fits. They are read by sixes, for the reason of `line_at`.
 fn digits_in(s: &[u8], at: Place, end: Place) -> Value
     requires { ⌜ (at ≤ end) × (end ≤ length (now s)) × (end ≤ at + 19) ⌝ }
     ensures { λ r. ⌜ r ≡ value (digitsIn (slice at end (now (s .entry)))) ⌝ }
 {
     let mut n: u64 = 0; // any unit
     let mut i: Place = at;
-    while i < end {
-        let b = s[i] as u64; // a byte
-        if b < 48 {
-            return Value::Not;
+    loop {
+        let mut k: usize = 0; // bytes of the six
+        while k < 6 {
+            if end <= i {
+                return Value::Is(n);
+            }
+            let b = s[i] as u64; // a byte
+            if b < 48 {
+                return Value::Not;
+            }
+            if 57 < b {
+                return Value::Not;
+            }
+            n = 10 * n + (b - 48);
+            i += 1;
+            k += 1;
         }
-        if 57 < b {
-            return Value::Not;
-        }
-        n = 10 * n + (b - 48);
-        i += 1;
     }
-    Value::Is(n)
 }
 
 // A number: digits with no leading zero.

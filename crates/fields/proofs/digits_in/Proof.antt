@@ -1,5 +1,5 @@
--- `fields::digits_in` meets its contract. The loop's invariant: the bytes that are left, read on from `n`, make the number,
--- and whether all are digits is whether those are. The measure is the bytes left.
+-- `fields::digits_in` meets its contract. The invariant of both loops: the bytes that are left, read on from `n`, make the number,
+-- and whether all are digits is whether those are. The measure is the bytes left, up to `end` and of the six.
 use Prim.Native.Nat.{ℕ, suc, _+_, _-_, _*_, _^_, _≤_, _<_}
 use native.Mathlib.Nat.{pow-succ', pow-le-pow-right, lt-of-lt-of-le, one-le-pow}
 use native.Mathlib.Numerals.{add-one}
@@ -73,79 +73,103 @@ module _ (s : Text) (at end : ℕ) (ends : end ≤ length s) (few : end ≤ at +
       let good : every isDigit (slice at end s) ≡ true = r .tests ∙ ap (every isDigit) none in
       rw (good, r .number ∙ ap (decimal n) none)
 
+abbrev Inv-loop2 : tie.InvT-loop2
+Inv-loop2 s at end n₀ i₀ k₀ n i k = Read s at end n i × (i ≡ i₀ + k) × (k ≤ 6)
+
+abbrev μ-loop2 : tie.MeasureT-loop2
+μ-loop2 s at end n₀ i₀ k₀ n i k = 6 - k
+
 abbrev Inv-loop : tie.InvT-loop
 Inv-loop s at end n₀ i₀ n i = Read s at end n i
 
 abbrev μ-loop : tie.MeasureT-loop
 μ-loop s at end n₀ i₀ n i = end - i
 
-loop-holds : tie.Need-loop-holds Inv-loop μ-loop
+loop-holds : tie.Need-loop-holds Inv-loop2 μ-loop2 Inv-loop μ-loop
 loop-holds c =
     record { behind = omega arith; inside = omega arith; small = one-le-pow _ 10 (lit< tt); number = refl; tests = refl }
 
-shared-slice-read-b : tie.Need-shared-slice-read-b Inv-loop μ-loop
-shared-slice-read-b c = omega arith
+loop2-holds : tie.Need-loop2-holds Inv-loop2 μ-loop2 Inv-loop μ-loop
+loop2-holds c = (c .loop .inv, omega arith, omega arith)
 
-cast-b : tie.Need-cast-b Inv-loop μ-loop
-cast-b c = omega (arith, c .shared-slice-known .given (c .before .before .loop .i))
-
-returns : tie.Need-returns Inv-loop μ-loop
-returns c =
-    let a = c .before .before .before .before .args in
-    let l = c .before .before .before .loop in
-    spoilt (a .s .now) (a .at) (a .end) (omega arith) (omega arith) (l .n) (l .i) (omega arith) (below (getD (a .s .now) (l .i) 0) (c .if1 .taken)) (l .inv)
-
-returns-2 : tie.Need-returns-2 Inv-loop μ-loop
-returns-2 c =
-    let a = c .before .before .before .before .before .args in
-    let l = c .before .before .before .before .loop in
-    spoilt (a .s .now) (a .at) (a .end) (omega arith) (omega arith) (l .n) (l .i) (omega arith) (above (getD (a .s .now) (l .i) 0) (c .if2 .taken)) (l .inv)
-
--- The number before another digit
-small-yet : (c : tie.Else2 Inv-loop μ-loop) → c .before .before .before .before .loop .n < 10 ^ 18
-small-yet c =
-    let a = c .before .before .before .before .before .args in
-    let l = c .before .before .before .before .loop in
-    limit (a .s .now) (a .at) (a .end) (omega arith) (omega arith) (l .n) (l .i) (omega arith) (l .inv)
-
-mul-n : tie.Need-mul-n Inv-loop μ-loop
-mul-n c = omega (arith, small-yet c)
-
-add-n : tie.Need-add-n Inv-loop μ-loop
-add-n c = omega (arith, small-yet c)
-
-add-i : tie.Need-add-i Inv-loop μ-loop
-add-i c = omega arith
-
-loop-less : tie.Need-loop-less Inv-loop μ-loop
+loop-less : tie.Need-loop-less Inv-loop2 μ-loop2 Inv-loop μ-loop
 loop-less c = omega arith
 
-loop-again : tie.Need-loop-again Inv-loop μ-loop
-loop-again c =
-    let a = c .before .before .before .before .before .args in
-    let l = c .before .before .before .before .loop in
-    step (a .s .now) (a .at) (a .end) (omega arith) (omega arith) (l .n) (l .i) (omega arith) (c .before .if1 .left) (c .if2 .left) (l .inv)
+loop-again : tie.Need-loop-again Inv-loop2 μ-loop2 Inv-loop μ-loop
+loop-again c = c .before .loop2 .inv .0
 
-returns-3 : tie.Need-returns-3 Inv-loop μ-loop
+returns : tie.Need-returns Inv-loop2 μ-loop2 Inv-loop μ-loop
+returns c =
+    let a = c .before .before .before .before .args in
+    let l = c .before .before .loop2 in
+    done (a .s .now) (a .at) (a .end) (omega arith) (omega arith) (l .n) (l .i) (c .if1 .taken) (l .inv .0)
+
+shared-slice-read-b : tie.Need-shared-slice-read-b Inv-loop2 μ-loop2 Inv-loop μ-loop
+shared-slice-read-b c = omega arith
+
+cast-b : tie.Need-cast-b Inv-loop2 μ-loop2 Inv-loop μ-loop
+cast-b c = omega (arith, c .shared-slice-known .given (c .before .before .before .loop2 .i))
+
+returns-2 : tie.Need-returns-2 Inv-loop2 μ-loop2 Inv-loop μ-loop
+returns-2 c =
+    let a = c .before .before .before .before .before .before .args in
+    let l = c .before .before .before .before .loop2 in
+    spoilt (a .s .now) (a .at) (a .end) (omega arith) (omega arith) (l .n) (l .i) (omega arith) (below (getD (a .s .now) (l .i) 0) (c .if2 .taken)) (l .inv .0)
+
+returns-3 : tie.Need-returns-3 Inv-loop2 μ-loop2 Inv-loop μ-loop
 returns-3 c =
-    let a = c .before .before .args in
-    let l = c .before .loop in
-    done (a .s .now) (a .at) (a .end) (omega arith) (omega arith) (l .n) (l .i) (c .loop-test .left) (l .inv)
+    let a = c .before .before .before .before .before .before .before .args in
+    let l = c .before .before .before .before .before .loop2 in
+    spoilt (a .s .now) (a .at) (a .end) (omega arith) (omega arith) (l .n) (l .i) (omega arith) (above (getD (a .s .now) (l .i) 0) (c .if3 .taken)) (l .inv .0)
+
+-- The number before another digit
+small-yet : (c : tie.Else3 Inv-loop2 μ-loop2 Inv-loop μ-loop) → c .before .before .before .before .before .loop2 .n < 10 ^ 18
+small-yet c =
+    let a = c .before .before .before .before .before .before .before .args in
+    let l = c .before .before .before .before .before .loop2 in
+    limit (a .s .now) (a .at) (a .end) (omega arith) (omega arith) (l .n) (l .i) (omega arith) (l .inv .0)
+
+mul-n : tie.Need-mul-n Inv-loop2 μ-loop2 Inv-loop μ-loop
+mul-n c = omega (arith, small-yet c)
+
+add-n : tie.Need-add-n Inv-loop2 μ-loop2 Inv-loop μ-loop
+add-n c = omega (arith, small-yet c)
+
+add-i : tie.Need-add-i Inv-loop2 μ-loop2 Inv-loop μ-loop
+add-i c = omega arith
+
+add-k : tie.Need-add-k Inv-loop2 μ-loop2 Inv-loop μ-loop
+add-k c = omega arith
+
+loop2-less : tie.Need-loop2-less Inv-loop2 μ-loop2 Inv-loop μ-loop
+loop2-less c = omega arith
+
+loop2-again : tie.Need-loop2-again Inv-loop2 μ-loop2 Inv-loop μ-loop
+loop2-again c =
+    let a = c .before .before .before .before .before .before .before .args in
+    let l = c .before .before .before .before .before .loop2 in
+    (step (a .s .now) (a .at) (a .end) (omega arith) (omega arith) (l .n) (l .i) (omega arith) (c .before .if2 .left) (c .if3 .left) (l .inv .0), omega arith, omega arith)
 
 pub digits-in-spec : {M : Type 1} → statement M
 digits-in-spec =
     tie.close
     (tie.spec
+    Inv-loop2
+    μ-loop2
     Inv-loop
     μ-loop
     loop-holds
+    loop2-holds
+    loop-less
+    loop-again
+    returns
     shared-slice-read-b
     cast-b
-    returns
     returns-2
+    returns-3
     mul-n
     add-n
     add-i
-    loop-less
-    loop-again
-    returns-3)
+    add-k
+    loop2-less
+    loop2-again)

@@ -1,5 +1,6 @@
--- `fields::line_at` meets its contract. The loop's invariant: the ends that were found, and those of the rest of the line behind
--- them, are the line's; `count` says how many were found, and `ends` has the first ten. The measure is the bytes left up to `end`.
+-- `fields::line_at` meets its contract. The invariant of both loops: the ends that were found, and those of the rest of the line
+-- behind them, are the line's; `count` says how many were found, and `ends` has the first ten. The measure is the bytes left, up to
+-- `end` and of the eight.
 use Prim.Native.Nat.{ℕ, zero, suc, _+_, _-_, _≤_, _<_}
 use native.Mathlib.Nat.{le-of-suc-le-suc, not-suc-le-zero}
 use native.Mathlib.Numerals.{add-one}
@@ -116,13 +117,19 @@ module _ (s : Text) (at end : ℕ) (ends : List Place) (count : ℕ) (i : Place)
           all = on (endsFrom (i + 1) (drop (i + 1) s)) same;
         }
 
+abbrev Inv-loop2 : tie.InvT-loop2
+Inv-loop2 s at end ends₀ count₀ i₀ k₀ ends count i k = Seen s at end ends count i × (i ≡ i₀ + k) × (k ≤ 8)
+
+abbrev μ-loop2 : tie.MeasureT-loop2
+μ-loop2 s at end ends₀ count₀ i₀ k₀ ends count i k = 8 - k
+
 abbrev Inv-loop : tie.InvT-loop
 Inv-loop s at end ends₀ count₀ i₀ ends count i = Seen s at end ends count i
 
 abbrev μ-loop : tie.MeasureT-loop
 μ-loop s at end ends₀ count₀ i₀ ends count i = end - i
 
-loop-holds : tie.Need-loop-holds Inv-loop μ-loop
+loop-holds : tie.Need-loop-holds Inv-loop2 μ-loop2 Inv-loop μ-loop
 loop-holds c =
     record {
       found = [];
@@ -134,72 +141,94 @@ loop-holds c =
       all = refl;
     }
 
-shared-slice-read-b : tie.Need-shared-slice-read-b Inv-loop μ-loop
-shared-slice-read-b c = omega arith
+loop2-holds : tie.Need-loop2-holds Inv-loop2 μ-loop2 Inv-loop μ-loop
+loop2-holds c = (c .loop .inv, omega arith, omega arith)
 
-mul-ends : tie.Need-mul-ends Inv-loop μ-loop
-mul-ends c = omega arith
-
-array-write-ends : tie.Need-array-write-ends Inv-loop μ-loop
-array-write-ends c = omega arith
-
-add-count : tie.Need-add-count Inv-loop μ-loop
-add-count c = omega arith
-
-add-i : tie.Need-add-i Inv-loop μ-loop
-add-i c = omega arith
-
-loop-less : tie.Need-loop-less Inv-loop μ-loop
+loop-less : tie.Need-loop-less Inv-loop2 μ-loop2 Inv-loop μ-loop
 loop-less c = omega arith
 
-loop-again : tie.Need-loop-again Inv-loop μ-loop
-loop-again c =
-    let a = c .before .before .before .before .args in
-    let l = c .before .before .before .loop in
-    let kept = no-room (a .s .now) (a .at) (a .end) (l .ends) (l .count) (l .i) (omega arith) (l .inv) in
-    let marked′ = marked (a .s .now) (a .at) (a .end) (l .ends) (l .count) (l .i) (omega arith) (l .inv) (c .before .before .before .before .pre .2) (c .before .if1 .left) in
-    let passed′ = passed (a .s .now) (a .at) (a .end) (l .ends) (l .count) (l .i) (omega arith) (l .inv) (c .before .before .before .before .pre .2) (c .before .if1 .left) in
-    ⊎-elim
-    (λ w. rw (w .3) (marked′ (w .0 .taken) (c .if2 .ends) (w .2 ∙ ⊎-elim (λ v. v .1) (λ v. v .1 ∙ kept (v .0 .left)) (w .1 .came))))
-    (λ w. rw (w .1, w .2) (passed′ (w .0 .left)))
-    (c .if2 .came)
+loop-again : tie.Need-loop-again Inv-loop2 μ-loop2 Inv-loop μ-loop
+loop-again c = c .before .loop2 .inv .0
 
-mul-ends-2 : tie.Need-mul-ends-2 Inv-loop μ-loop
+shared-slice-read-b : tie.Need-shared-slice-read-b Inv-loop2 μ-loop2 Inv-loop μ-loop
+shared-slice-read-b c = omega arith
+
+mul-ends : tie.Need-mul-ends Inv-loop2 μ-loop2 Inv-loop μ-loop
+mul-ends c = omega arith
+
+array-write-ends : tie.Need-array-write-ends Inv-loop2 μ-loop2 Inv-loop μ-loop
+array-write-ends c = omega arith
+
+add-t16 : tie.Need-add-t16 Inv-loop2 μ-loop2 Inv-loop μ-loop
+add-t16 c = omega arith
+
+add-t18 : tie.Need-add-t18 Inv-loop2 μ-loop2 Inv-loop μ-loop
+add-t18 c = omega arith
+
+returns : tie.Need-returns Inv-loop2 μ-loop2 Inv-loop μ-loop
+returns c =
+    let a = c .before .before .before .before .before .before .args in
+    let l = c .before .before .before .before .loop2 in
+    let kept = no-room (a .s .now) (a .at) (a .end) (l .ends) (l .count) (l .i) (omega arith) (l .inv .0) in
+    finished (a .s .now) (a .at) (a .end) (l .ends) (l .count) (l .i) (omega arith) (l .inv .0) (c .before .if1 .taken) (c .if2 .ends)
+    (⊎-elim (λ w. w .1) (λ w. w .1 ∙ kept (w .0 .left)) (c .if2 .came))
+
+mul-ends-2 : tie.Need-mul-ends-2 Inv-loop2 μ-loop2 Inv-loop μ-loop
 mul-ends-2 c = omega arith
 
-array-write-ends-2 : tie.Need-array-write-ends-2 Inv-loop μ-loop
+array-write-ends-2 : tie.Need-array-write-ends-2 Inv-loop2 μ-loop2 Inv-loop μ-loop
 array-write-ends-2 c = omega arith
 
-add-t19 : tie.Need-add-t19 Inv-loop μ-loop
-add-t19 c = omega arith
+add-count : tie.Need-add-count Inv-loop2 μ-loop2 Inv-loop μ-loop
+add-count c = omega arith
 
-add-t21 : tie.Need-add-t21 Inv-loop μ-loop
-add-t21 c = omega arith
+add-i : tie.Need-add-i Inv-loop2 μ-loop2 Inv-loop μ-loop
+add-i c = omega arith
 
-returns : tie.Need-returns Inv-loop μ-loop
-returns c =
-    let a = c .before .before .before .before .args in
-    let l = c .before .before .before .loop in
-    let kept = no-room (a .s .now) (a .at) (a .end) (l .ends) (l .count) (l .i) (omega arith) (l .inv) in
-    finished (a .s .now) (a .at) (a .end) (l .ends) (l .count) (l .i) (omega arith) (l .inv) (c .before .if1 .taken) (c .if4 .ends)
-    (⊎-elim (λ w. w .1) (λ w. w .1 ∙ kept (w .0 .left)) (c .if4 .came))
+add-k : tie.Need-add-k Inv-loop2 μ-loop2 Inv-loop μ-loop
+add-k c = omega arith
+
+loop2-less : tie.Need-loop2-less Inv-loop2 μ-loop2 Inv-loop μ-loop
+loop2-less c = omega arith
+
+loop2-again : tie.Need-loop2-again Inv-loop2 μ-loop2 Inv-loop μ-loop
+loop2-again c =
+    let f = c .before .before .before .before .before .before in
+    let a = f .args in
+    let l = c .before .before .before .before .loop2 in
+    let kept = no-room (a .s .now) (a .at) (a .end) (l .ends) (l .count) (l .i) (omega arith) (l .inv .0) in
+    let marked′ = marked (a .s .now) (a .at) (a .end) (l .ends) (l .count) (l .i) (omega arith) (l .inv .0) (f .pre .2) (c .before .if1 .left) in
+    let passed′ = passed (a .s .now) (a .at) (a .end) (l .ends) (l .count) (l .i) (omega arith) (l .inv .0) (f .pre .2) (c .before .if1 .left) in (
+      ⊎-elim
+          (λ w. rw (w .3) (marked′ (w .0 .taken) (c .if3 .ends) (w .2 ∙ ⊎-elim (λ v. v .1) (λ v. v .1 ∙ kept (v .0 .left)) (w .1 .came))))
+          (λ w. rw (w .1, w .2) (passed′ (w .0 .left)))
+          (c .if3 .came),
+      omega arith,
+      omega arith,
+    )
 
 pub line-at-spec : {M : Type 1} → statement M
 line-at-spec =
     tie.close
     (tie.spec
+    Inv-loop2
+    μ-loop2
     Inv-loop
     μ-loop
     loop-holds
+    loop2-holds
+    loop-less
+    loop-again
     shared-slice-read-b
     mul-ends
     array-write-ends
-    add-count
-    add-i
-    loop-less
-    loop-again
+    add-t16
+    add-t18
+    returns
     mul-ends-2
     array-write-ends-2
-    add-t19
-    add-t21
-    returns)
+    add-count
+    add-i
+    add-k
+    loop2-less
+    loop2-again)
