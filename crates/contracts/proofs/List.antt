@@ -35,12 +35,14 @@ use Rattle.fields.proofs.kind_in.Reads as fields-kind-in
 use Rattle.fields.proofs.trade_in.Reads as fields-trade-in
 use Rattle.fields.proofs.side_in.Reads as fields-side-in
 use Rattle.fields.proofs.is_code.Reads as fields-is-code
+use Rattle.fields.proofs.code_number.Reads as fields-code-number
 use Rattle.fields.proofs.is_currency.Reads as fields-is-currency
 use Rattle.fields.proofs.compare.Reads as fields-compare
 use Rattle.searches.proofs.class_of.Reads as searches-class-of
 use Rattle.searches.proofs.ranked.Reads as searches-ranked
 use Rattle.searches.proofs.with_currency.Reads as searches-with-currency
 use Rattle.searches.proofs.rises.Reads as searches-rises
+use Rattle.searches.proofs.keys_of.Reads as searches-keys-of
 use Rattle.searches.proofs.find.Reads as searches-find
 use Rattle.classes.proofs.none_seen.Reads as classes-none-seen
 use Rattle.classes.proofs.fits.Reads as classes-fits
@@ -158,6 +160,9 @@ fields-side-in-fixed κs a x y s u p q = one p q
 pub fields-is-code-fixed : Fixes fields-is-code.Post
 fields-is-code-fixed κs a x y s u p q = one p q
 
+pub fields-code-number-fixed : Fixes fields-code-number.Post
+fields-code-number-fixed κs a x y s u p q = one p q
+
 pub fields-is-currency-fixed : Fixes fields-is-currency.Post
 fields-is-currency-fixed κs a x y s u p q = one p q
 
@@ -175,6 +180,9 @@ searches-with-currency-fixed κs a x y s u p q = one p q
 
 pub searches-rises-fixed : Fixes searches-rises.Post
 searches-rises-fixed κs a x y s u p q = one p q
+
+pub searches-keys-of-fixed : Fixes searches-keys-of.Post
+searches-keys-of-fixed κs a x y s u p q = one p q
 
 pub searches-find-fixed : Fixes searches-find.Post
 searches-find-fixed κs a x y s u p q = one p q

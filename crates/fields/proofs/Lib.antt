@@ -3,3 +3,4 @@ pub mod Parts
 pub mod Letters
 pub mod Orders
 pub mod Places
+pub mod Numbers

@@ -1,5 +1,5 @@
 -- What stands in a field, as the code holds it: the paper's reading with the range that the rules ask for.
-use Prim.Native.Nat.{ℕ}
+use Prim.Native.Nat.{ℕ, _+_, _-_, _*_}
 use mathlib.Core.Bool.{Bool, true, false, cond, _||_}
 use mathlib.Core.List.{[], _∷_}
 use mathlib.Core.Option.{Option, none, some, Option·map}
@@ -65,6 +65,17 @@ sideNumber purchaser = 1
 -- The sets of bytes that a code and a currency are made of, by their numbers in the code: letters, digits, both
 abbrev pub inSet : ℕ → Byte → Bool
 inSet set b = cond (eqb set 0) (isLetter b) (cond (eqb set 1) (isDigit b) (isLetter b || isDigit b))
+
+-- A code as one number that orders as its bytes do, read on from a number: each byte from `0` on in base 43, which reaches to
+-- `Z`, and the last, a digit, in base 10
+abbrev pub codeFrom : ℕ → Text → ℕ
+codeFrom n [] = n
+codeFrom n (b ∷ []) = 10 * n + (b - 48)
+codeFrom n (b ∷ c ∷ t) = codeFrom (43 * n + (b - 48)) (c ∷ t)
+
+-- The whole code
+abbrev pub codeNumber : Text → ℕ
+codeNumber = codeFrom 0
 
 -- How two texts stand to each other, by bytes
 abbrev pub orderOf : Text → Text → Order

@@ -9,7 +9,7 @@ ghost use lib.Seq.{slice};
 ghost use Rattle.paper.specs.Lists.{between, every};
 ghost use Rattle.paper.specs.Text.{LF, numberIn, dateIn, isCode, isCurrency};
 ghost use Rattle.paper.specs.Rows.{kindIn, tradeIn, sideIn};
-ghost use Rattle.fields.specs.Values.{value, signed, digitsIn, rangedIn, rateIn, durationIn, kindNumber, tradeNumber, sideNumber, inSet, orderOf};
+ghost use Rattle.fields.specs.Values.{value, signed, digitsIn, rangedIn, rateIn, durationIn, kindNumber, tradeNumber, sideNumber, inSet, codeNumber, orderOf};
 ghost use Rattle.fields.specs.Places.{endedLength, lineAt};
 
 pub type Place = usize; // in the sheet, in bytes from its start
@@ -333,6 +333,22 @@ pub fn is_code(s: &[u8], at: Place, end: Place) -> bool
     } else {
         false
     }
+}
+
+// The number of the code at a place: it orders as codes do, and two codes have two numbers.
+pub fn code_number(s: &[u8], at: Place) -> u64
+    requires { ⌜ isCode (slice at (at + 12) (now s)) ≡ true ⌝ }
+    ensures { λ r. ⌜ r ≡ codeNumber (slice at (at + 12) (now (s .entry))) ⌝ }
+{
+    let mut n: u64 = 0; // the bytes so far, in base 43
+    let mut i: usize = 0; // bytes
+    while i < 11 {
+        let b = s[at + i] as u64; // a byte
+        n = 43 * n + (b - 48);
+        i += 1;
+    }
+    let last = s[at + 11] as u64; // a byte
+    10 * n + (last - 48)
 }
 
 // Whether a field is a currency: three letters.

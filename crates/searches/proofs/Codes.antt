@@ -1,24 +1,21 @@
--- Laws of rising codes: a code comes before each behind it, and where one is looked for those before it and after it are passed.
-use Prim.Native.Nat.{ℕ, zero, suc, _+_, _≤_, _<_}
-use native.Mathlib.Nat.{zero-add, add-zero, not-suc-le-zero, le-of-suc-le-suc, eq-or-lt-of-le}
-use native.Mathlib.Decide.{decLt}
+-- Laws of rising codes: a code comes before each behind it; their numbers rise with them, and a code is found by its number.
+use Prim.Native.Nat.{ℕ, zero, suc, _+_, _-_, _≤_, _<_}
+use native.Mathlib.Nat.{not-suc-le-zero, le-of-suc-le-suc}
 use native.Mathlib.Omega.{arith}
-use mathlib.Core.Bool.{true, false}
-use mathlib.Core.List.{List, [], _∷_}
-use mathlib.Core.Logic.{⊎-elim}
-use mathlib.Core.Path.{_≡_, sym, ap, _∙_}
-use borrow.Author.Count.{below-more}
-use lib.ListN.{length, getD, drop}
-use lib.Seq.{drop-cons, drop-length}
+use mathlib.Core.Bool.{Bool, true, false}
+use mathlib.Core.List.{List, [], _∷_, _++_, map}
+use mathlib.Core.Path.{_≡_, refl, sym, ap, _∙_}
+use borrow.Author.Tests.{ltb-true}
+use lib.Dec.{eqb}
+use lib.ListN.{length, getD, replicate, length-map, getD-replicate, List·getD-append}
+use lib.Seq.{getD-append-add}
 use Rattle.paper.specs.Units.{Text, Code}
-use Rattle.paper.specs.Text.{same, before}
-use Rattle.paper.proofs.Order.{before-trans, before-not-same, after-not-same}
+use Rattle.paper.specs.Text.{same, before, isCode}
+use Rattle.paper.proofs.Lists.{nil, cons, each-at, made-at}
+use Rattle.paper.proofs.Order.{before-trans}
 use Rattle.fields.specs.Places.{Place}
-use Rattle.fields.specs.Values.{orderOf}
-use Rattle.fields.specs.declared.Order.the-variants as orders
-use Rattle.fields.proofs.Orders.{order-same, order-before, order-after}
-use Rattle.searches.specs.Searches.{textAt, Rising, rises-none, rises-one, rises-more, placeIn}
-use Rattle.searches.proofs.Places.{equal-same}
+use Rattle.fields.proofs.Numbers.{code-number-low, code-number-before, code-number-same}
+use Rattle.searches.specs.Searches.{textAt, Rising, rises-none, rises-one, rises-more, placeIn, Coded, numberAt, highest, keysOf, Searchable, numberPlace}
 
 -- The code at the place that stands so far on in a list
 abbrev pub codeAt : Text → List Place → ℕ → Code
@@ -42,62 +39,53 @@ rising-at sheet (rises-more {p} {q} {ps} e r) zero (suc k) h l =
     rising-head sheet {p = p} {ps = q ∷ ps} (rises-more e r) k (le-of-suc-le-suc l)
 rising-at sheet (rises-more e r) (suc j) (suc k) h l = rising-at sheet r j k (le-of-suc-le-suc h) (le-of-suc-le-suc l)
 
-module _ (sheet : Text) (code : Place) where
-  -- Codes that are not the one looked for are passed
-  passed : (ps : List Place) (n : ℕ) → n ≤ length ps → ((k : ℕ) → k < n → same (codeAt sheet ps k) (textAt 12 sheet code) ≡ false)
-      → placeIn sheet ps code ≡ n + placeIn sheet (drop n ps) code
-  passed ps zero h other = sym (zero-add (placeIn sheet ps code))
-  passed [] (suc n) h other = absurd (not-suc-le-zero h)
-  passed (p ∷ ps) (suc n) h other =
-      rw (other 0 (omega arith), placeIn)
-      (ap suc (passed ps n (le-of-suc-le-suc h) (λ k l. other (suc k) (omega arith))) ∙ omega arith)
+-- One code more
+pub coded-last : (sheet : Text) (p : Place) → isCode (textAt 12 sheet p) ≡ true → {ps : List Place} → Coded sheet ps
+    → Coded sheet (ps ++ (p ∷ []))
+coded-last sheet p is nil = cons is nil
+coded-last sheet p is (cons c coded) = cons c (coded-last sheet p is coded)
 
-  module _ (ps : List Place) where
-    -- All codes up to a place come before the one looked for; all from a place on come after it
-    abbrev pub Below : ℕ → Type 0
-    Below n = (k : ℕ) → k < n → before (codeAt sheet ps k) (textAt 12 sheet code) ≡ true
-
-    abbrev pub Above : ℕ → Type 0
-    Above n = (k : ℕ) → n ≤ k → k < length ps → before (textAt 12 sheet code) (codeAt sheet ps k) ≡ true
-
-    module _ (rising : Rising sheet ps) (m : ℕ) (inside : m < length ps) where
-      -- Where the code at a place is the one looked for, all before it come before that
-      below-found : codeAt sheet ps m ≡ textAt 12 sheet code → Below m
-      below-found e k l = ap (before (codeAt sheet ps k)) (sym e) ∙ rising-at sheet rising k m l inside
-
-      -- What the code at a place decides: it is found; all up to it come before; all from it on come after
-      pub found : orderOf (codeAt sheet ps m) (textAt 12 sheet code) ≡ orders.Same → m ≡ placeIn sheet ps code
-      found o =
-          let e : codeAt sheet ps m ≡ textAt 12 sheet code = order-same (codeAt sheet ps m) (textAt 12 sheet code) o in
-          sym
-          (passed ps m (omega arith) (λ k l. before-not-same (codeAt sheet ps k) (textAt 12 sheet code) (below-found e k l))
-          ∙ ap (λ (l : List Place). m + placeIn sheet l code) (drop-cons ps m 0 inside)
-          ∙ rw (equal-same (codeAt sheet ps m) (textAt 12 sheet code) e, placeIn) (add-zero m))
-
-      pub below : orderOf (codeAt sheet ps m) (textAt 12 sheet code) ≡ orders.Before → Below (m + 1)
-      below o =
-          let e : before (codeAt sheet ps m) (textAt 12 sheet code) ≡ true = order-before (codeAt sheet ps m) (textAt 12 sheet code) o in
-          below-more (λ k. before (codeAt sheet ps k) (textAt 12 sheet code) ≡ true) m
-          (λ k l. before-trans (codeAt sheet ps k) (codeAt sheet ps m) (textAt 12 sheet code) (rising-at sheet rising k m l inside) e) e
-
-      pub above : orderOf (codeAt sheet ps m) (textAt 12 sheet code) ≡ orders.After → Above m
-      above o k h l =
-          let e : before (textAt 12 sheet code) (codeAt sheet ps m) ≡ true = order-after (codeAt sheet ps m) (textAt 12 sheet code) o in
-          ⊎-elim
-          (λ i. ap (λ (n : ℕ). before (textAt 12 sheet code) (codeAt sheet ps n)) (sym i) ∙ e)
-          (λ i. before-trans (textAt 12 sheet code) (codeAt sheet ps m) (codeAt sheet ps k) e (rising-at sheet rising m k i l))
-          (eq-or-lt-of-le h)
-
-    -- All codes come before it or after it
-    pub missing : (low : ℕ) → Below low → Above low → placeIn sheet ps code ≡ length ps
-    missing low b a =
-        passed ps (length ps) (omega arith) other
-        ∙ ap (λ (l : List Place). length ps + placeIn sheet l code) (drop-length ps)
-        ∙ add-zero (length ps)
+-- A number among those of codes is where its code is
+pub number-place : (sheet : Text) (code : Place) → isCode (textAt 12 sheet code) ≡ true → (ps : List Place) → Coded sheet ps
+    → numberPlace (map (numberAt sheet) ps) (numberAt sheet code) ≡ placeIn sheet ps code
+number-place sheet code is [] coded = refl
+number-place sheet code is (p ∷ ps) (cons c coded) =
+    go (same (textAt 12 sheet p) (textAt 12 sheet code)) refl (number-place sheet code is ps coded)
+  where
+    go : (b : Bool) → same (textAt 12 sheet p) (textAt 12 sheet code) ≡ b
+        → numberPlace (map (numberAt sheet) ps) (numberAt sheet code) ≡ placeIn sheet ps code
+        → numberPlace (map (numberAt sheet) (p ∷ ps)) (numberAt sheet code) ≡ placeIn sheet (p ∷ ps) code
+    go b e rest =
+        let one : eqb (numberAt sheet p) (numberAt sheet code) ≡ b = sym (code-number-same (textAt 12 sheet p) (textAt 12 sheet code) c is) ∙ e in
+        told b e one
       where
-        at : (k : ℕ) → k < length ps → Dec (k < low) → same (codeAt sheet ps k) (textAt 12 sheet code) ≡ false
-        at k l (yes h) = before-not-same (codeAt sheet ps k) (textAt 12 sheet code) (b k h)
-        at k l (no h) = after-not-same (codeAt sheet ps k) (textAt 12 sheet code) (a k (omega (arith, h)) l)
+        told : (b : Bool) → same (textAt 12 sheet p) (textAt 12 sheet code) ≡ b → eqb (numberAt sheet p) (numberAt sheet code) ≡ b
+            → numberPlace (map (numberAt sheet) (p ∷ ps)) (numberAt sheet code) ≡ placeIn sheet (p ∷ ps) code
+        told true e one = rw (e, one, numberPlace, placeIn)
+        told false e one = rw (e, one, numberPlace, placeIn) (ap suc rest)
 
-        other : (k : ℕ) → k < length ps → same (codeAt sheet ps k) (textAt 12 sheet code) ≡ false
-        other k l = at k l (decLt k low)
+-- The keys of rising codes can be searched
+module _ (sheet : Text) (ps : List Place) (coded : Coded sheet ps) where
+  key-at : (i : ℕ) → i < length ps → getD (keysOf sheet ps) i 0 ≡ numberAt sheet (getD ps i 0)
+  key-at i h =
+      List·getD-append (map (numberAt sheet) ps) (replicate (256 - length ps) highest) 0 i (omega (arith, length-map ps (numberAt sheet)))
+      ∙ made-at (numberAt sheet) ps i 0 0 h
+
+  code-at : (i : ℕ) → i < length ps → isCode (textAt 12 sheet (getD ps i 0)) ≡ true
+  code-at i h = each-at i 0 coded h
+
+  pub keys-searchable : Rising sheet ps → length ps ≤ 200 → Searchable (keysOf sheet ps) (length ps)
+  keys-searchable rising few =
+      record {
+        rise = λ i j h l. (
+            let low : i < length ps = omega arith in
+            let up = ltb-true (numberAt sheet (getD ps i 0)) (numberAt sheet (getD ps j 0))
+            (sym (code-number-before (textAt 12 sheet (getD ps i 0)) (textAt 12 sheet (getD ps j 0)) (code-at i low) (code-at j l)) ∙ rising-at sheet rising i j h l) in
+            omega (arith, key-at i low, key-at j l, up));
+        low = λ i h. omega (arith, key-at i h, code-number-low (textAt 12 sheet (getD ps i 0)) (code-at i h));
+        rest = λ i h l. (
+            let behind : i ≡ length (map (numberAt sheet) ps) + (i - length ps) = omega (arith, length-map ps (numberAt sheet)) in
+            ap (λ (n : ℕ). getD (keysOf sheet ps) n 0) behind
+            ∙ getD-append-add (map (numberAt sheet) ps) (replicate (256 - length ps) highest) (i - length ps) 0
+            ∙ getD-replicate (256 - length ps) (i - length ps) highest 0 (omega arith));
+      }

@@ -1,4 +1,5 @@
 pub mod Places
 pub mod Ranks
 pub mod Codes
+pub mod Keys
 pub mod Rules

@@ -1,15 +1,17 @@
 -- What is looked for among the rows above: a class, a currency, whether a code rises, and a code among rising ones.
-use Prim.Native.Nat.{ℕ, suc, _+_, _-_, _≤_}
+use Prim.Native.Nat.{ℕ, suc, _+_, _-_, _≤_, _<_}
 use mathlib.Core.Bool.{Bool, true, false, _&&_}
-use mathlib.Core.List.{List, [], _∷_, _++_}
+use mathlib.Core.List.{List, [], _∷_, _++_, map}
 use mathlib.Core.Option.{Option, none, some, Option·map}
 use mathlib.Core.Path.{_≡_}
 use lib.Dec.{eqb, leb}
-use lib.ListN.{length, take, drop}
+use lib.ListN.{length, getD, take, drop, replicate}
 use lib.Seq.{slice}
 use Rattle.paper.specs.Units.{Text, Currency, Duration}
-use Rattle.paper.specs.Text.{same, before}
+use Rattle.paper.specs.Text.{same, before, isCode}
+use Rattle.paper.proofs.Lists.{Each}
 use Rattle.fields.specs.Places.{Place}
+use Rattle.fields.specs.Values.{codeNumber}
 use Rattle.searches.specs.declared.Standing.{Standing}
 use Rattle.searches.specs.declared.Currencies.{Currencies}
 
@@ -70,3 +72,30 @@ abbrev pub placeIn : Text → List Place → Place → ℕ
 placeIn sheet [] code = 0
 placeIn sheet (p ∷ ps) code =
     elim (same (textAt 12 sheet p) (textAt 12 sheet code)) [ true ↦ 0 | false ↦ suc (placeIn sheet ps code) ]
+
+-- What stands at each of some places is a code
+abbrev pub Coded : Text → List Place → Type 0
+Coded sheet ps = Each (λ p. isCode (textAt 12 sheet p) ≡ true) ps
+
+-- The code at a place as one number
+abbrev pub numberAt : Text → Place → ℕ
+numberAt sheet at = codeNumber (textAt 12 sheet at)
+
+-- Above every code's number
+abbrev pub highest : ℕ
+highest = 18446744073709551615
+
+-- The numbers of the codes at places, and the highest up to 256
+abbrev pub keysOf : Text → List Place → List ℕ
+keysOf sheet ps = map (numberAt sheet) ps ++ replicate (256 - length ps) highest
+
+-- The first so many of 256 keys rise, below the highest, which stands behind them
+pub record Searchable (keys : List ℕ) (count : ℕ) : Type 0 where
+  pub rise : (i j : ℕ) → i < j → j < count → getD keys i 0 < getD keys j 0
+  pub low : (i : ℕ) → i < count → getD keys i 0 < highest
+  pub rest : (i : ℕ) → count ≤ i → i < 256 → getD keys i 0 ≡ highest
+
+-- The place of a number among numbers; as many as there are where it is not there
+abbrev pub numberPlace : List ℕ → ℕ → ℕ
+numberPlace [] n = 0
+numberPlace (m ∷ ms) n = elim (eqb m n) [ true ↦ 0 | false ↦ suc (numberPlace ms n) ]

@@ -6,7 +6,9 @@ ghost use mathlib.Core.Path.{_≡_};
 ghost use Prim.Native.Nat.{_+_, _≤_, _<_};
 ghost use lib.ListN.{length, take};
 ghost use Rattle.fields.specs.Values.{value};
-ghost use Rattle.searches.specs.Searches.{Within, Rising, classPlace, rankedOf, insertedAt, risesOver, placeIn};
+ghost use Rattle.searches.specs.Searches.{Within, Coded, Searchable, classPlace, rankedOf, insertedAt, risesOver, keysOf, numberPlace};
+
+pub type Key = u64; // a code as one number
 
 // The currencies of rows: a place for each where it stands, rising by bytes.
 pub struct Currencies {
@@ -128,33 +130,43 @@ pub fn rises(
     }
 }
 
-// The place of a code among rising ones, by bisection; as many as there are where it is not there.
-pub fn find(
+// The numbers of codes, to be searched: the highest number stands behind them.
+pub fn keys_of(
     s: &[u8],
     codes: &[Place; 200],
     count: usize, // codes
-    code: Place,
-) -> usize
-    requires { ⌜ (count ≤ 200) × Within 12 (now s) (take count (now codes)) × (code + 12 ≤ length (now s)) × Rising (now s) (take count (now codes)) ⌝ }
-    ensures { λ r. ⌜ r ≡ placeIn (now (s .entry)) (take count (now (codes .entry))) code ⌝ }
+) -> [Key; 256]
+    requires { ⌜ (count ≤ 200) × Coded (now s) (take count (now codes)) ⌝ }
+    ensures { λ r. ⌜ r ≡ keysOf (now (s .entry)) (take count (now (codes .entry))) ⌝ }
 {
     let codes: &[Place] = codes; // as a slice: a proof is told its length
-    let mut low: usize = 0; // the codes before it come before the code
-    let mut high: usize = count; // the codes from it on come after the code
-    while low < high {
-        let middle = low + (high - low) / 2;
-        let order = fields::compare(s, codes[middle], code, 12);
-        match order {
-            Order::Before => {
-                low = middle + 1;
-            }
-            Order::Same => {
-                return middle;
-            }
-            Order::After => {
-                high = middle;
-            }
-        }
+    let mut keys: [Key; 256] = [18446744073709551615; 256];
+    let mut i: usize = 0; // codes
+    while i < count {
+        keys[i] = fields::code_number(s, codes[i]);
+        i += 1;
     }
-    count
+    keys
+}
+
+// The place of a key among rising ones, by bisection; as many as there are where it is not there. Eight steps, whatever the
+// count: the compiler makes them one after the other, and without a branch that could be guessed wrong.
+pub fn find(
+    keys: &[Key; 256],
+    count: usize, // keys
+    key: Key,
+) -> usize
+    requires { ⌜ (count ≤ 200) × Searchable (now keys) count ⌝ }
+    ensures { λ r. ⌜ r ≡ numberPlace (take count (now (keys .entry))) key ⌝ }
+{
+    let keys: &[Key] = keys; // as a slice: a proof is told its length
+    let mut low: usize = 0; // the keys before it are below the key
+    let mut size: usize = 256; // of the keys from there on, the first that is not below it
+    while 1 < size {
+        let half = size / 2;
+        let step = if keys[low + half - 1] < key { half } else { 0 };
+        low += step;
+        size -= half;
+    }
+    if keys[low] == key { low } else { count }
 }

@@ -43,6 +43,7 @@ unranked sheet cs at s =
 pub record Placed (sheet : Text) (at : Place) (s : paper.SecurityRow) : Type 0 where
   pub code : textAt 12 sheet (fieldPlace sheet at 0) ≡ s .code
   pub code-inside : fieldPlace sheet at 0 + 12 ≤ length sheet
+  pub coded : isCode (s .code) ≡ true
   pub currency : textAt 3 sheet (fieldPlace sheet at 1) ≡ s .currency
   pub currency-inside : fieldPlace sheet at 1 + 3 ≤ length sheet
   pub timed : isDuration (s .kind) (s .duration) ≡ true
@@ -61,6 +62,7 @@ security-placed sheet at s h e =
     record {
       code = c .0 ∙ code;
       code-inside = c .1;
+      coded = is-code;
       currency = m .0 ∙ currency;
       currency-inside = m .1;
       timed = search tests depth 8;

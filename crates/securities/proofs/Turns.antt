@@ -12,7 +12,7 @@ use lib.ListN.{length, take, drop, set, replicate, length-set, length-replicate,
 use lib.Seq.{length-take-le, take-suc-set}
 use Rattle.paper.specs.Units.{Text, Currency}
 use Rattle.paper.specs.Lists.{firstThat, inTurn}
-use Rattle.paper.specs.Text.{same, lines}
+use Rattle.paper.specs.Text.{same, isCode, lines}
 use Rattle.paper.specs.Rows as paper
 use Rattle.paper.specs.Rows.{readSecurity}
 use Rattle.paper.specs.Currencies.{currencies, hasCurrency}
@@ -27,9 +27,11 @@ use Rattle.fields.proofs.Places.{line-there}
 use Rattle.rows.specs.Fields.{fieldsAt}
 use Rattle.rows.specs.Held.{fieldPlace}
 use Rattle.rows.specs.Reads.{securityRead}
+use Rattle.rows.specs.declared.SecurityRow.{SecurityRow}
 use Rattle.rows.specs.Sections.{goesOn, nextAfter, heldFrom, padded}
 use Rattle.rows.proofs.Loops.{Going, going-start, going-on, going-refused, going-ended, whole, EachFrom, none-from, one-from, each-more, table-more, padded-none, held-more, held-length}
-use Rattle.searches.specs.Searches.{Within, nowhere, textAt, rankedOf, insertedAt, Rising, rises-none}
+use Rattle.searches.specs.Searches.{Within, nowhere, Coded, textAt, rankedOf, insertedAt, Rising, rises-none}
+use Rattle.searches.proofs.Codes.{coded-last}
 use Rattle.searches.specs.declared.Currencies.{Currencies}
 use Rattle.searches.proofs.Rules.{rank-has, rank-is, rank-low, inserted-currencies, inserted-first, inserted-length, within-put, within-last, rising-last}
 use Rattle.securities.specs.Tables.{noSecurity, noMoney, heldFound, withMoney, moneyFrom, heldSecurities, Bordered, FindableIn, securityJudged, reranked}
@@ -81,6 +83,7 @@ pub record Plain (sheet : Text) (rows : List Security) (codes : List Place) (mon
   pub money-few : money .count ≤ 8
   pub money-long : length (money .places) ≡ 8
   pub codes-inside : Within 12 sheet (take count codes)
+  pub codes-coded : Coded sheet (take count codes)
   pub money-inside : Within 3 sheet (take (money .count) (money .places))
   pub rows-inside : Within 3 sheet (map (λ r. r .row .currency) (take count rows))
   pub rising : Rising sheet (take count codes)
@@ -97,6 +100,7 @@ plain-start sheet from h =
       money-few = omega arith;
       money-long = length-replicate 8 empty;
       codes-inside = nowhere;
+      codes-coded = nil;
       money-inside = nowhere;
       rows-inside = nowhere;
       rising = rises-none;
@@ -113,6 +117,13 @@ module _ {sheet : Text} {rows : List Security} {codes : List Place} {money : Cur
   -- Its code and its currency stand in the sheet
   pub turn-code : s .row .code + 12 ≤ length sheet
   turn-code = rw (taken .from-line .held) (taken .from-line .placed .code-inside)
+
+  turn-coded : isCode (textAt 12 sheet (s .row .code)) ≡ true
+  turn-coded =
+      let line = taken .from-line in
+      ap (λ (p : Place). isCode (textAt 12 sheet p)) (ap (λ (r : SecurityRow). r .code) (line .held))
+      ∙ ap isCode (line .placed .code)
+      ∙ line .placed .coded
 
   pub turn-currency : s .row .currency + 3 ≤ length sheet
   turn-currency = rw (taken .from-line .held) (taken .from-line .placed .currency-inside)
@@ -140,6 +151,7 @@ module _ {sheet : Text} {rows : List Security} {codes : List Place} {money : Cur
         money-few = money-few;
         money-long = money-long;
         codes-inside = subst (Within 12 sheet) (sym codes-on) (within-last 12 sheet (s .row .code) turn-code (plain .codes-inside));
+        codes-coded = subst (Coded sheet) (sym codes-on) (coded-last sheet (s .row .code) turn-coded (plain .codes-coded));
         money-inside = money-inside;
         rows-inside =
             subst (Within 3 sheet) (sym (ap (map currency) rows-on ∙ map-append currency (take count rows) (s ∷ [])))
@@ -403,7 +415,7 @@ module _ (sheet : Text) (cs : List paper.ClassRow) (from : Place) where
         let same : ss ≡ all = ap (λ (read : List paper.SecurityRow × Rest). read .0) (accepted-one (sym section-ended ∙ accepts)) in
         record {
           few = plain .few;
-          inside = plain .codes-inside;
+          coded = plain .codes-coded;
           rising = plain .rising;
           texts = held .code-texts ∙ ap (map (λ s. s .code)) same;
           money-few = plain .money-few;

@@ -19,7 +19,7 @@ use Rattle.rows.specs.Held.{fieldPlace, heldSecurity}
 use Rattle.rows.specs.Sections.{nextAfter, heldFrom, padded}
 use Rattle.rows.specs.declared.SecurityRead.{SecurityRead}
 use Rattle.rows.specs.declared.SecurityRead.the-variants as reads
-use Rattle.searches.specs.Searches.{Within, Rising, textAt, classPlace, rankedOf, rankIn, insertedAt, risesOver}
+use Rattle.searches.specs.Searches.{Within, Rising, Coded, textAt, classPlace, rankedOf, rankIn, insertedAt, risesOver}
 use Rattle.securities.specs.declared.Security.{Security}
 use Rattle.securities.specs.declared.SecurityFound.{SecurityFound}
 use Rattle.securities.specs.declared.SecurityFound.the-variants as found
@@ -100,7 +100,7 @@ pub record Bordered (kinds borders numbers : List ℕ) (cs : List paper.ClassRow
 -- What a table tells of the rows of its section: a code is found by bisection, a currency by its rank
 pub record Findable (sheet : Text) (ss : List paper.SecurityRow) (t : Securities) : Type 0 where
   pub few : t .count ≤ 200
-  pub inside : Within 12 sheet (take (t .count) (t .codes))
+  pub coded : Coded sheet (take (t .count) (t .codes))
   pub rising : Rising sheet (take (t .count) (t .codes))
   pub texts : map (textAt 12 sheet) (take (t .count) (t .codes)) ≡ map (λ s. s .code) ss
   pub money-few : t .currencies .count ≤ 8

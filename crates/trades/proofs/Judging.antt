@@ -54,17 +54,16 @@ accrual-held sheet at today working t e = go (t .trade)
     go repo = e
     go cash = refl
 
--- The code of a trade stands at its place
+-- The code of a trade stands at its place, and is one
 pub code-text : (sheet : Text) (at : Place) (t : paper.TradeRow) → at < endedLength sheet → tradeShape (fieldsAt sheet at) ≡ accepted t
-    → (textAt 12 sheet (fieldPlace sheet at 2) ≡ t .code) × (fieldPlace sheet at 2 + 12 ≤ length sheet)
+    → (textAt 12 sheet (fieldPlace sheet at 2) ≡ t .code) × (isCode (t .code) ≡ true)
 code-text sheet at t h e =
     let fs = fieldsAt sheet at in
     let (nine, read) = shaped-read 9 readTrade (λ t. take 2 (tradeRules 0 [] [] t)) fs t e in
     let holding = shaped-holds 9 readTrade (λ t. take 2 (tradeRules 0 [] [] t)) fs t e in
     let is-code : isCode (t .code) ≡ true = search tests in
     let code : field 3 fs ≡ t .code = in-field fs read in
-    let there = field-text sheet at h 2 12 (omega arith) (omega arith) (ap length code ∙ code-length (t .code) is-code) in
-    (there .0 ∙ code, there .1)
+    (field-text sheet at h 2 12 (omega arith) (omega arith) (ap length code ∙ code-length (t .code) is-code) .0 ∙ code, is-code)
   where
     in-field : (fs : Fields) → readTrade fs ≡ some t → field 3 fs ≡ t .code
     in-field fs e =
@@ -157,7 +156,7 @@ module _ (sheet : Text) (today working : Day) (is-working : working ≡ workingA
           (judgedOn (length above) (λ t. drop 2 (tradeRules today ss above t)) o)
       go (refused number line) e = trade-refused number
       go (accepted t) e =
-          let (text, inside) = code-text sheet at t h e in
+          let text = code-text sheet at t h e .0 in
           let p = fieldPlace sheet at 2 in
           judged-all t _
           (ap₂ (λ (m : Bool) (a : Day). record { row = heldTrade sheet at t; security = placeIn sheet codes p; margined = m; accrual = a })
@@ -166,19 +165,20 @@ module _ (sheet : Text) (today working : Day) (is-working : working ≡ workingA
           (place-given sheet codes p ss (t .code) (stands .codes-of) text)
           (λ there. period-agrees at t text (ltb-true (placeIn sheet codes p) (length codes) there))
 
--- A T row that was read has its code in the sheet, and the next line behind it
+-- A T row that was read has a code at its place, and the next line behind it
 pub read-row : (sheet : Text) (at : Place) (t : TradeRow) (behind : Place) → at < endedLength sheet → tradeRead sheet at ≡ reads.Row t behind
-    → (t .code + 12 ≤ length sheet) × (behind ≡ lineAt sheet at .next)
+    → (isCode (textAt 12 sheet (t .code)) ≡ true) × (behind ≡ lineAt sheet at .next)
 read-row sheet at t behind h e = go (tradeShape (fieldsAt sheet at)) refl e
   where
     held : Outcome paper.TradeRow → TradeRead
     held o = elim o [ refused number line ↦ reads.Refused number | accepted t ↦ reads.Row (heldTrade sheet at t) (lineAt sheet at .next) ]
 
     go : (o : Outcome paper.TradeRow) → tradeShape (fieldsAt sheet at) ≡ o → held o ≡ reads.Row t behind
-        → (t .code + 12 ≤ length sheet) × (behind ≡ lineAt sheet at .next)
+        → (isCode (textAt 12 sheet (t .code)) ≡ true) × (behind ≡ lineAt sheet at .next)
     go (refused number line) s e = let z : _≡_ {A = ℕ} 0 1 = cc in absurd (omega arith)
     go (accepted p) s e =
         let same : heldTrade sheet at p ≡ t = cc in
         let next : lineAt sheet at .next ≡ behind = cc in
         let code : fieldPlace sheet at 2 ≡ t .code = ap (λ (t : TradeRow). t .code) same in
-        (omega (arith, code-text sheet at p h s .1), sym next)
+        let (text, is-code) = code-text sheet at p h s in
+        (ap (λ (at : Place). isCode (textAt 12 sheet at)) (sym code) ∙ ap isCode text ∙ is-code, sym next)

@@ -18,7 +18,7 @@ use Rattle.rows.specs.Sections.{nextAfter, heldFrom, padded}
 use Rattle.rows.specs.declared.TradeRow.{TradeRow}
 use Rattle.rows.specs.declared.TradeRead.{TradeRead}
 use Rattle.rows.specs.declared.TradeRead.the-variants as reads
-use Rattle.searches.specs.Searches.{textAt, placeIn}
+use Rattle.searches.specs.Searches.{Coded, textAt, placeIn, keysOf}
 use Rattle.trades.specs.declared.Trade.{Trade}
 use Rattle.trades.specs.declared.TradeFound.{TradeFound}
 use Rattle.trades.specs.declared.TradeFound.the-variants as found
@@ -29,6 +29,12 @@ pub record Stands (sheet : Text) (codes : List Place) (previous next : List Day)
   pub codes-of : map (textAt 12 sheet) codes ≡ map (λ s. s .code) ss
   pub previous-of : previous ≡ map (λ s. day (s .previous)) ss
   pub next-of : next ≡ map (λ s. day (s .next)) ss
+
+-- Keys that are those of so many codes at places
+pub record Keyed (sheet : Text) (keys : List ℕ) (many : ℕ) (codes : List Place) : Type 0 where
+  pub as-many : length codes ≡ many
+  pub coded : Coded sheet codes
+  pub keys-of : keys ≡ keysOf sheet codes
 
 -- Whether a trade is margined on a calculation day (01, "Selection"); trade 1 is cash
 abbrev pub marginedRow : Day → TradeRow → Bool

@@ -6,6 +6,7 @@ use rows::Day;
 use rows::Number;
 use rows::TradeRead;
 use rows::TradeRow;
+use searches::Key;
 ghost use mathlib.Core.Path.{_≡_};
 ghost use mathlib.Core.List.{List};
 ghost use Prim.Native.Nat.{_≤_, _<_};
@@ -15,10 +16,10 @@ ghost use Rattle.paper.specs.Text.{ascii, lines};
 ghost use Rattle.paper.specs.Rows.{SecurityRow, readTrade};
 ghost use Rattle.paper.specs.Refusals.{tradeRules};
 ghost use Rattle.paper.specs.Sheet.{section};
-ghost use Rattle.fields.specs.Places.{endedLength};
+ghost use Rattle.fields.specs.Places.{Place, endedLength};
 ghost use Rattle.rows.specs.Reads.{tradeRead};
-ghost use Rattle.searches.specs.Searches.{Within, Rising};
-ghost use Rattle.trades.specs.Tables.{Stands, marginedRow, accrualRow, periodHolds, noTrade, heldTrades, foundNumber, tradeJudged};
+ghost use Rattle.searches.specs.Searches.{Coded, Rising, Searchable};
+ghost use Rattle.trades.specs.Tables.{Stands, Keyed, marginedRow, accrualRow, periodHolds, noTrade, heldTrades, foundNumber, tradeJudged};
 
 // A trade with what judging its row found out.
 pub struct Trade {
@@ -117,15 +118,14 @@ fn trade_at(
     end: Place,
     today: Day,
     working: Day,
-    codes: &[Place; 200], // of the securities, rising
+    keys: &[Key; 256], // of the securities, rising
     previous: &[Day; 200], // coupon
     next: &[Day; 200], // coupon
     many: usize, // securities
     count: usize, // rows above
 ) -> TradeFound
-    requires { ⌜ (at < end) × (end ≡ endedLength (now s)) × (now years ≡ newYears) × (many ≤ 200) ⌝ }
-    requires { ⌜ Within 12 (now s) (take many (now codes)) × Rising (now s) (take many (now codes)) ⌝ }
-    ensures { λ r. ⌜ r ≡ tradeJudged (now (s .entry)) today working (take many (now (codes .entry))) (take many (now (previous .entry))) (take many (now (next .entry))) count (tradeRead (now (s .entry)) at) ⌝ }
+    requires { ⌜ (at < end) × (end ≡ endedLength (now s)) × (now years ≡ newYears) × (many ≤ 200) × Searchable (now keys) many ⌝ }
+    ensures { λ r. ⌜ ((codes : List Place) → Keyed (now (s .entry)) (now (keys .entry)) many codes → r ≡ tradeJudged (now (s .entry)) today working codes (take many (now (previous .entry))) (take many (now (next .entry))) count (tradeRead (now (s .entry)) at)) ⌝ }
 {
     let read = rows::trade_row(s, years, at, end);
     let TradeRead::Row(row, behind) = read else {
@@ -134,8 +134,7 @@ fn trade_at(
     if 500 <= count {
         return TradeFound::Refused(8);
     }
-    let place = searches::find(s, codes, many, row.code);
-    let codes: &[Place] = codes; // as a slice: a proof is told its length
+    let place = searches::find(keys, many, fields::code_number(s, row.code));
     if many <= place {
         return TradeFound::Refused(10);
     }
@@ -169,9 +168,11 @@ pub fn trade_section(
     many: usize, // securities
 ) -> Trades
     requires { ⌜ (from ≤ end) × (end ≡ endedLength (now s)) × (now years ≡ newYears) × (working ≡ workingAfter today) × (many ≤ 200) ⌝ }
-    requires { ⌜ Within 12 (now s) (take many (now codes)) × Rising (now s) (take many (now codes)) ⌝ }
+    requires { ⌜ Coded (now s) (take many (now codes)) × Rising (now s) (take many (now codes)) ⌝ }
     ensures { λ r. ⌜ ((ss : List SecurityRow) → Stands (now (s .entry)) (take many (now (codes .entry))) (take many (now (previous .entry))) (take many (now (next .entry))) ss → r ≡ heldTrades (now (s .entry)) today (take many (now (codes .entry))) from (section (ascii "T") 9 readTrade (tradeRules today ss) (0, lines (drop from (now (s .entry)))))) ⌝ }
 {
+    let keys = searches::keys_of(s, codes, many);
+    let codes: &[Place] = codes; // as a slice: a proof is told its length
     let mut rows: [Trade; 500] = [no_trade(); 500];
     let mut count: usize = 0; // rows
     let mut at: Place = from;
@@ -183,7 +184,7 @@ pub fn trade_section(
             end,
             today,
             working,
-            codes,
+            &keys,
             previous,
             next,
             many,

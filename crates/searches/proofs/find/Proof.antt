@@ -1,134 +1,97 @@
--- `searches::find` meets its contract. The loop's invariant: all codes before `low` come before the code, and all from `high`
--- on come after it. The measure is the codes between.
-use Prim.Native.Nat.{ℕ, _+_, _-_, _/_, _≤_}
+-- `searches::find` meets its contract. The loop's invariant: all keys before `low` are below the key, and none is from the last of
+-- the next `size` on. The measure is `size`.
+use Prim.Native.Nat.{ℕ, suc, _+_, _-_, _/_, _≤_}
 use native.Mathlib.Omega.{arith}
-use mathlib.Core.Path.{_≡_, sym, ap, _∙_}
-use borrow.Author.Needs.{needs}
-use lib.ListN.{length, take}
-use lib.Seq.{length-take-le, getD-take}
-use Rattle.fields.specs.Places.{Place}
-use Rattle.fields.specs.Values.{orderOf}
-use Rattle.fields.specs.declared.Order.{Order}
-use Rattle.fields.specs.declared.Order.the-variants as orders
-use Rattle.searches.specs.Searches.{textAt}
-use Rattle.searches.proofs.Places.{within-first}
-use Rattle.searches.proofs.Codes.{codeAt, Below, Above, found, below, above, missing}
+use mathlib.Core.Logic.{⊎-elim}
+use mathlib.Core.Path.{_≡_}
+use lib.ListN.{length}
+use Rattle.searches.proofs.Keys.{Below, Above, none-above, below, above, found, missing}
 use Rattle.searches.proofs.find.Statement.{statement}
 use Rattle.searches.proofs.find.Tie as tie
 
 abbrev Inv-loop : tie.InvT-loop
-Inv-loop s codes count code codes' low₀ high₀ low high =
-    (low ≤ high)
-    × (high ≤ count)
-    × (length (take count codes) ≡ count)
-    × Below s code (take count codes) low
-    × Above s code (take count codes) high
+Inv-loop keys count key keys' low₀ size₀ low size =
+    (1 ≤ size) × (low + size ≤ 256) × (length keys ≡ 256) × Below keys key low × Above keys key (low + size)
 
 abbrev μ-loop : tie.MeasureT-loop
-μ-loop s codes count code codes' low₀ high₀ low high = high - low
+μ-loop keys count key keys' low₀ size₀ low size = size
 
 loop-holds : tie.Need-loop-holds Inv-loop μ-loop
 loop-holds c =
-    let a = c .before .before .args in
-    let all = length-take-le (a .count) (a .codes .now) (omega (arith, c .codes .given)) in
-    (omega arith, omega arith, all, λ k h. absurd (omega arith), λ k h l. absurd (omega arith))
-
-sub-middle : tie.Need-sub-middle Inv-loop μ-loop
-sub-middle c = omega arith
-
-add-middle : tie.Need-add-middle Inv-loop μ-loop
-add-middle c = omega arith
-
-mul-compare : tie.Need-mul-compare Inv-loop μ-loop
-mul-compare c = omega arith
-
-shared-slice-read-compare : tie.Need-shared-slice-read-compare Inv-loop μ-loop
-shared-slice-read-compare c = omega arith
-
--- The place where the code is looked for in a turn
-abbrev middle : tie.At-loop Inv-loop μ-loop → ℕ
-middle l = l .loop .low + (l .loop .high - l .loop .low) / 2
-
-compare-requires : tie.Need-compare-requires Inv-loop μ-loop
-compare-requires c κs =
-    let l = c .before .before in
-    let b = l .before .before .before in
+    let b = c .before in
     let a = b .args in
-    (within-first 12 (a .s .now) (a .codes .now) (a .count) (omega (arith, l .before .codes .given)) (b .pre .1) (middle l) (omega arith), b .pre .2)
+    let long : length (a .keys .now) ≡ 256 = c .keys .given .0 in
+    (omega arith, omega arith, long, λ k h. absurd (omega arith), none-above (a .keys .now) (a .count) (a .key) long (b .pre .0) (b .pre .1) (omega (arith, b .fits .key)))
 
--- How the code there stands to the one looked for
-told : (c : tie.After-compare Inv-loop μ-loop) (o : Order) → c .compare .result ≡ o
-    → let l = c .before .before .before in
-    let a = l .before .before .before .args in
-    orderOf (codeAt (a .s .now) (take (a .count) (a .codes .now)) (middle l)) (textAt 12 (a .s .now) (a .code)) ≡ o
-told c o e =
-    let l = c .before .before .before in
-    let a = l .before .before .before .args in
-    ap (λ (p : Place). orderOf (textAt 12 (a .s .now) p) (textAt 12 (a .s .now) (a .code))) (getD-take (a .count) (a .codes .now) (middle l) 0 (omega arith))
-    ∙ sym (c .compare .ensures)
-    ∙ e
+add-if1 : tie.Need-add-if1 Inv-loop μ-loop
+add-if1 c = omega arith
 
-enum-told : tie.Need-enum-told Inv-loop μ-loop
-enum-told c = search needs
+sub-if1 : tie.Need-sub-if1 Inv-loop μ-loop
+sub-if1 c = omega arith
+
+mul-if1 : tie.Need-mul-if1 Inv-loop μ-loop
+mul-if1 c = omega arith
+
+shared-slice-read-if1 : tie.Need-shared-slice-read-if1 Inv-loop μ-loop
+shared-slice-read-if1 c = omega arith
+
+-- A step is at most the half
+stepped : (c : tie.Joined1 Inv-loop μ-loop) → c .if1 .step ≤ c .before .before .before .loop .size / 2
+stepped c = ⊎-elim (λ w. omega (arith, w .1)) (λ w. omega (arith, w .1)) (c .if1 .came)
 
 add-low : tie.Need-add-low Inv-loop μ-loop
-add-low c = omega arith
+add-low c = omega (arith, stepped (c .before))
+
+sub-size : tie.Need-sub-size Inv-loop μ-loop
+sub-size c = omega arith
 
 loop-less : tie.Need-loop-less Inv-loop μ-loop
 loop-less c = omega arith
 
 loop-again : tie.Need-loop-again Inv-loop μ-loop
 loop-again c =
-    let m = c .before .before in
-    let l = m .before .before .before in
-    let b = l .before .before .before in
-    let a = b .args in (
-      omega arith,
-      omega arith,
-      l .loop .inv .2,
-      below (a .s .now) (a .code) (take (a .count) (a .codes .now)) (b .pre .3) (middle l) (omega (arith, l .loop .inv .2)) (told m orders.Before (c .enum-told .given .1)),
-      l .loop .inv .4,
-    )
+    let l = c .before .before .before .before in
+    let b = l .before .before in
+    let a = b .args in
+    let v = l .loop .inv in
+    let half = l .loop .size / 2 in
+    let middle : suc (l .loop .low + half - 1) ≡ l .loop .low + half = omega arith in
+    let steps = stepped (c .before) in
+    let turn : (step : ℕ) → Type 0 = λ step. Below (a .keys .now) (a .key) (l .loop .low + step) × Above (a .keys .now) (a .key) (l .loop .low + step + (l .loop .size - half)) in
+    let turned : turn (c .before .if1 .step) =
+    ⊎-elim
+    (λ w. rw (w .1) (rw middle at (below (a .keys .now) (a .count) (a .key) (v .2) (b .pre .0) (b .pre .1) (l .loop .low + half - 1) (omega arith) (w .0 .taken)), λ k h i. v .4 k (omega arith) i))
+    (λ w. rw (w .1) (λ k h. v .3 k (omega arith), λ k h i. above (a .keys .now) (a .count) (a .key) (v .2) (b .pre .0) (b .pre .1) (l .loop .low + half - 1) (w .0 .left) k (omega arith) i))
+    (c .before .if1 .came)
+    in
+    (omega arith, omega (arith, steps), v .2, turned .0, turned .1)
 
-enum-told-2 : tie.Need-enum-told-2 Inv-loop μ-loop
-enum-told-2 c = search needs
+mul-if2 : tie.Need-mul-if2 Inv-loop μ-loop
+mul-if2 c = omega arith
+
+shared-slice-read-if2 : tie.Need-shared-slice-read-if2 Inv-loop μ-loop
+shared-slice-read-if2 c = omega arith
+
+-- At the end one place is left
+module _ (l : tie.At-loop Inv-loop μ-loop) (one : l .loop .size ≡ 1) where
+  last-above : Above (l .before .before .args .keys .now) (l .before .before .args .key) (suc (l .loop .low))
+  last-above k h i = l .loop .inv .4 k (omega (arith, one)) i
 
 returns : tie.Need-returns Inv-loop μ-loop
 returns c =
-    let m = c .before .before in
-    let l = m .before .before .before in
-    let b = l .before .before .before in
+    let l = c .before .before .before in
+    let b = l .before .before in
     let a = b .args in
-    found (a .s .now) (a .code) (take (a .count) (a .codes .now)) (b .pre .3) (middle l) (omega (arith, l .loop .inv .2)) (told m orders.Same (c .enum-told2 .given .1))
-
-enum-told-3 : tie.Need-enum-told-3 Inv-loop μ-loop
-enum-told-3 c = search needs
-
-loop-less-2 : tie.Need-loop-less-2 Inv-loop μ-loop
-loop-less-2 c = omega arith
-
-loop-again-2 : tie.Need-loop-again-2 Inv-loop μ-loop
-loop-again-2 c =
-    let m = c .before .before in
-    let l = m .before .before .before in
-    let b = l .before .before .before in
-    let a = b .args in (
-      omega arith,
-      omega arith,
-      l .loop .inv .2,
-      l .loop .inv .3,
-      above (a .s .now) (a .code) (take (a .count) (a .codes .now)) (b .pre .3) (middle l) (omega (arith, l .loop .inv .2)) (told m orders.After (c .enum-told3 .given .1)),
-    )
+    let v = l .loop .inv in
+    found (a .keys .now) (a .count) (a .key) (v .2) (b .pre .0) (b .pre .1) (l .loop .low) (omega arith) (v .3) (last-above l (omega arith)) (c .if2 .taken)
 
 returns-2 : tie.Need-returns-2 Inv-loop μ-loop
 returns-2 c =
-    let l = c .before in
-    let a = l .before .before .before .args in
+    let l = c .before .before .before in
+    let b = l .before .before in
+    let a = b .args in
     let v = l .loop .inv in
-    let met : l .loop .high ≡ l .loop .low = omega arith in
-    sym
-    (missing (a .s .now) (a .code) (take (a .count) (a .codes .now)) (l .loop .low) (v .3) (rw met at (v .4))
-    ∙ v .2)
+    missing (a .keys .now) (a .count) (a .key) (v .2) (b .pre .0) (b .pre .1) (l .loop .low) (omega arith) (v .3) (last-above l (omega arith)) (c .if2 .left)
 
 pub find-spec : {M : Type 1} → statement M
 find-spec =
@@ -137,18 +100,15 @@ find-spec =
     Inv-loop
     μ-loop
     loop-holds
-    sub-middle
-    add-middle
-    mul-compare
-    shared-slice-read-compare
-    compare-requires
-    enum-told
+    add-if1
+    sub-if1
+    mul-if1
+    shared-slice-read-if1
     add-low
+    sub-size
     loop-less
     loop-again
-    enum-told-2
+    mul-if2
+    shared-slice-read-if2
     returns
-    enum-told-3
-    loop-less-2
-    loop-again-2
     returns-2)

@@ -221,7 +221,7 @@ trade-section-requires c κs =
     let b = a .before .before in
     let found = codes-found f in (
       (omega (arith, securities-open f .within, b .pre .0 .2), b .pre .0 .2, b .pre .0 .3, c .before .before .before .working-after .ensures, found .few),
-      (found .inside, found .rising),
+      (found .coded, found .rising),
     )
 
 -- The coupon days that the T section is lent are those of the S rows

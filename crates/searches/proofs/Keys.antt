@@ -1,0 +1,108 @@
+-- Laws of keys that rise up to the highest: where one is looked for, those below it and those above it are passed.
+use Prim.Native.Nat.{ℕ, zero, suc, _+_, _≤_, _<_}
+use native.Mathlib.Nat.{zero-add, add-zero, not-suc-le-zero, le-of-suc-le-suc, eq-or-lt-of-le}
+use native.Mathlib.Decide.{decLt}
+use native.Mathlib.Omega.{arith}
+use mathlib.Core.List.{List, [], _∷_}
+use mathlib.Core.Logic.{⊎-elim}
+use mathlib.Core.Path.{_≡_, sym, ap, _∙_}
+use borrow.Author.Tests.{eq-eqb, ne-eqb}
+use lib.ListN.{length, getD, take, drop}
+use lib.Seq.{drop-cons, drop-length, length-take-le, getD-take}
+use Rattle.searches.specs.Searches.{highest, Searchable, numberPlace}
+
+-- Numbers that are not the one looked for are passed
+passed : (key : ℕ) (ms : List ℕ) (n : ℕ) → n ≤ length ms → ((k : ℕ) → k < n → getD ms k 0 ≡ key → ⊥)
+    → numberPlace ms key ≡ n + numberPlace (drop n ms) key
+passed key ms zero h other = sym (zero-add (numberPlace ms key))
+passed key [] (suc n) h other = absurd (not-suc-le-zero h)
+passed key (m ∷ ms) (suc n) h other =
+    rw (ne-eqb m key (other 0 (omega arith)), numberPlace)
+    (ap suc (passed key ms n (le-of-suc-le-suc h) (λ k l. other (suc k) (omega arith))) ∙ omega arith)
+
+module _ (keys : List ℕ) (key : ℕ) where
+  -- All keys up to a place are below the one looked for; none is from the one before a place on
+  abbrev pub Below : ℕ → Type 0
+  Below n = (k : ℕ) → k < n → getD keys k 0 < key
+
+  abbrev pub Above : ℕ → Type 0
+  Above n = (k : ℕ) → n ≤ suc k → k < 256 → key ≤ getD keys k 0
+
+module _ (keys : List ℕ) (count key : ℕ) (long : length keys ≡ 256) (few : count ≤ 200) (ordered : Searchable keys count) where
+  -- No key is above one behind it
+  climbs : (i j : ℕ) → i < j → j < 256 → getD keys i 0 ≤ getD keys j 0
+  climbs i j h l = go (decLt j count) (decLt i count)
+    where
+      go : Dec (j < count) → Dec (i < count) → getD keys i 0 ≤ getD keys j 0
+      go (yes c) d = omega (arith, ordered .rise i j h c)
+      go (no c) (yes d) = omega (arith, ordered .low i d, ordered .rest j (omega (arith, c)) l)
+      go (no c) (no d) = omega (arith, ordered .rest i (omega (arith, d)) (omega arith), ordered .rest j (omega (arith, c)) l)
+
+  -- The last key is the highest
+  pub none-above : key ≤ highest → Above keys key 256
+  none-above h k i l = omega (arith, ordered .rest k (omega arith) l)
+
+  -- What the key at a place decides
+  pub below : (m : ℕ) → m < 256 → getD keys m 0 < key → Below keys key (suc m)
+  below m inside e k h = go (decLt k m)
+    where
+      go : Dec (k < m) → getD keys k 0 < key
+      go (yes l) = omega (arith, climbs k m l inside)
+      go (no l) = let one : k ≡ m = omega (arith, l) in rw one e
+
+  pub above : (m : ℕ) → key ≤ getD keys m 0 → Above keys key (suc m)
+  above m e k h l = ⊎-elim (λ i. rw (← i) e) (λ i. omega (arith, climbs m k i l)) (eq-or-lt-of-le (le-of-suc-le-suc h))
+
+  -- The keys that are looked through
+  abbrev used : List ℕ
+  used = take count keys
+
+  used-length : length used ≡ count
+  used-length = length-take-le count keys (omega arith)
+
+  -- None of them is the one looked for
+  none : ((k : ℕ) → k < count → getD keys k 0 ≡ key → ⊥) → count ≡ numberPlace used key
+  none other =
+      sym
+      (passed key used (length used) (omega arith)
+      (λ k l e. let low : k < count = omega (arith, used-length) in other k low (sym (getD-take count keys k 0 low) ∙ e))
+      ∙ ap (λ (l : List ℕ). length used + numberPlace l key) (drop-length used)
+      ∙ omega (arith, used-length))
+
+  -- The place up to which all are below it, and from which on none is
+  module _ (place : ℕ) (inside : place < 256) (b : Below keys key place) (a : Above keys key (suc place)) where
+    pub found : getD keys place 0 ≡ key → place ≡ numberPlace used key
+    found e = go (decLt place count)
+      where
+        go : Dec (place < count) → place ≡ numberPlace used key
+        go (yes h) =
+            let here : getD used place 0 ≡ key = getD-take count keys place 0 h ∙ e in
+            sym
+            (passed key used place (omega (arith, used-length))
+            (λ k l i. let low = b k l in omega (arith, sym (getD-take count keys k 0 (omega arith)) ∙ i))
+            ∙ ap (λ (l : List ℕ). place + numberPlace l key) (drop-cons used place 0 (omega (arith, used-length)))
+            ∙ rw (eq-eqb (getD used place 0) key here, numberPlace) (add-zero place))
+        go (no h) =
+            -- it is the highest, which first stands behind them
+            let top : getD keys place 0 ≡ highest = ordered .rest place (omega (arith, h)) inside in
+            let first : place ≡ count = go-first top (decLt count place) in
+            first ∙ none (λ k l i. let low = ordered .low k l in omega (arith, top, e, i))
+          where
+            go-first : getD keys place 0 ≡ highest → Dec (count < place) → place ≡ count
+            go-first top (yes l) =
+                let low = b count l in absurd (omega (arith, ordered .rest count (omega arith) (omega arith), top, e))
+            go-first top (no l) = omega (arith, h, l)
+
+    pub missing : (getD keys place 0 ≡ key → ⊥) → count ≡ numberPlace used key
+    missing e = none other
+      where
+        other : (k : ℕ) → k < count → getD keys k 0 ≡ key → ⊥
+        other k l i = go (decLt k place) (decLt place k)
+          where
+            go : Dec (k < place) → Dec (place < k) → ⊥
+            go (yes h) d = let low = b k h in omega (arith, i)
+            go (no h) (yes d) =
+                let up = ordered .rise place k d l in
+                let least = a place (omega arith) inside in
+                omega (arith, i)
+            go (no h) (no d) = let one : k ≡ place = omega (arith, h, d) in e (rw one at i)
