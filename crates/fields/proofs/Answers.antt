@@ -3,13 +3,13 @@ use Prim.Native.Nat.{ℕ, _≤_}
 use native.Mathlib.Omega.{arith}
 use mathlib.Core.Bool.{Bool, true, false}
 use mathlib.Core.Option.{Option, none, some}
-use mathlib.Core.Path.{_≡_, refl}
+use mathlib.Core.Path.{_≡_, refl, sym, ap}
 use lib.IntN.{ℤ}
 use Rattle.paper.specs.Units.{Text}
 use Rattle.paper.specs.Lists.{between, when}
 use Rattle.paper.specs.Text.{numberIn}
 use Rattle.paper.proofs.Lists.{bind-some, when-some, bounds}
-use Rattle.fields.specs.Values.{value, signed, rangedIn}
+use Rattle.fields.specs.Values.{value, signed, digitsOr, rangedIn}
 use Rattle.fields.specs.declared.Value.the-variants as values
 use Rattle.fields.specs.declared.Signed.the-variants as signs
 
@@ -40,3 +40,8 @@ ranged-bounds lowest highest t n e =
     let k = bind-some (numberIn t) (λ m. when (between lowest highest m) m) n e in
     let w = when-some (between lowest highest (k .0)) (k .0) n (k .2) in
     rw (w .1) at (bounds lowest highest (k .0) (w .0))
+
+-- A number that is not the highest is that of digits
+pub digits-told : (o : Option ℕ) (n : ℕ) → n ≡ digitsOr o → (n ≡ 18446744073709551615 → ⊥) → o ≡ some n
+digits-told none n e h = absurd (h e)
+digits-told (some m) n e h = ap some (sym e)

@@ -2,13 +2,13 @@
 use Prim.Native.Nat.{ℕ, _+_, _-_, _*_}
 use mathlib.Core.Bool.{Bool, true, false, cond, _||_}
 use mathlib.Core.List.{[], _∷_}
-use mathlib.Core.Option.{Option, none, some, Option·map}
+use mathlib.Core.Option.{Option, none, some}
 use lib.Dec.{eqb}
 use lib.IntN.{ℤ}
 use Rattle.paper.specs.Units.{Byte, Text, Duration, Rate}
 use Rattle.paper.specs.Lists.{between, every, when, _>>=_}
 use Rattle.paper.specs.Text.{same, before, isDigit, isLetter, decimal, numberIn, signedIn}
-use Rattle.paper.specs.Rows.{Kind, government, corporate, inflation, floating, Trade, repo, cash, Side, seller, purchaser, kindIn, tradeIn, sideIn}
+use Rattle.paper.specs.Rows.{Kind, government, corporate, inflation, floating, Trade, repo, cash, Side, seller, purchaser}
 use Rattle.paper.specs.Refusals.{isRate}
 use Rattle.fields.specs.declared.Value.{Value}
 use Rattle.fields.specs.declared.Value.the-variants as values
@@ -30,6 +30,11 @@ signed (some z) = signs.Is z
 -- Digits of any kind, leading zeros too, as the number that they mean
 abbrev pub digitsIn : Text → Option ℕ
 digitsIn t = when (every isDigit t) (decimal 0 t)
+
+-- Digits as a number; where they are not digits, the highest number of 64 bits, which nineteen digits do not reach
+abbrev pub digitsOr : Option ℕ → ℕ
+digitsOr none = 18446744073709551615
+digitsOr (some n) = n
 
 -- A number from a lowest to a highest
 abbrev pub rangedIn : ℕ → ℕ → Text → Option ℕ

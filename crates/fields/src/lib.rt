@@ -3,13 +3,13 @@
 ghost use mathlib.Core.Path.{_≡_};
 ghost use Prim.Native.Nat.{_+_, _-_, _≤_, _<_};
 ghost use mathlib.Core.Bool.{true};
-ghost use mathlib.Core.Option.{Option·map};
+ghost use mathlib.Core.Option.{none, Option·map};
 ghost use lib.ListN.{length, getD};
 ghost use lib.Seq.{slice};
 ghost use Rattle.paper.specs.Lists.{between, every};
 ghost use Rattle.paper.specs.Text.{LF, numberIn, dateIn, isCode, isCurrency};
 ghost use Rattle.paper.specs.Rows.{kindIn, tradeIn, sideIn};
-ghost use Rattle.fields.specs.Values.{value, signed, digitsIn, rangedIn, rateIn, durationIn, kindNumber, tradeNumber, sideNumber, inSet, codeNumber, orderOf};
+ghost use Rattle.fields.specs.Values.{value, signed, digitsIn, digitsOr, rangedIn, rateIn, durationIn, kindNumber, tradeNumber, sideNumber, inSet, codeNumber, orderOf};
 ghost use Rattle.fields.specs.Places.{endedLength, lineAt};
 
 pub type Place = usize; // in the sheet, in bytes from its start
@@ -91,10 +91,12 @@ pub fn line_at(s: &[u8], at: Place, end: Place) -> Line
     }
 }
 
-// Digits as the number that they mean; at most 19, so that it fits. They are read by sixes, for the reason of `line_at`.
-fn digits_in(s: &[u8], at: Place, end: Place) -> Value
+// Digits as the number that they mean; at most 19, so that it fits and is not the highest, which stands for other bytes.
+// They are read by sixes, for the reason of `line_at`.
+fn digits_in(s: &[u8], at: Place, end: Place) -> u64
     requires { ⌜ (at ≤ end) × (end ≤ length (now s)) × (end ≤ at + 19) ⌝ }
-    ensures { λ r. ⌜ r ≡ value (digitsIn (slice at end (now (s .entry)))) ⌝ }
+    ensures { λ r. ⌜ r ≡ digitsOr (digitsIn (slice at end (now (s .entry)))) ⌝ }
+    ensures { λ r. ⌜ (r ≡ 18446744073709551615 → digitsIn (slice at end (now (s .entry))) ≡ none) ⌝ }
 {
     let mut n: u64 = 0; // any unit
     let mut i: Place = at;
@@ -102,16 +104,13 @@ fn digits_in(s: &[u8], at: Place, end: Place) -> Value
         let mut k: usize = 0; // bytes of the six
         while k < 6 {
             if end <= i {
-                return Value::Is(n);
+                return n;
             }
-            let b = s[i] as u64; // a byte
-            if b < 48 {
-                return Value::Not;
+            let b = s[i]; // a byte
+            if !is_within(b, 48, 57) {
+                return 18446744073709551615;
             }
-            if 57 < b {
-                return Value::Not;
-            }
-            n = 10 * n + (b - 48);
+            n = 10 * n + (b as u64 - 48);
             i += 1;
             k += 1;
         }
@@ -135,7 +134,11 @@ fn number_in(s: &[u8], at: Place, end: Place) -> Value
             return Value::Not;
         }
     }
-    digits_in(s, at, end)
+    let n = digits_in(s, at, end); // any unit
+    if n == 18446744073709551615 {
+        return Value::Not;
+    }
+    Value::Is(n)
 }
 
 // A number from a lowest to a highest.
@@ -201,9 +204,10 @@ pub fn date_in(s: &[u8], at: Place, end: Place) -> Date
     if end - at != 8 {
         return 0;
     }
-    let Value::Is(n) = digits_in(s, at, end) else {
+    let n = digits_in(s, at, end); // eight digits as one number
+    if n == 18446744073709551615 {
         return 0;
-    };
+    }
     n
 }
 
@@ -240,11 +244,9 @@ pub fn trade_in(s: &[u8], at: Place, end: Place) -> Value
         return Value::Not;
     }
     let b = s[at]; // a byte
-    if b == 82 {
-        return Value::Is(0);
-    }
-    if b == 67 {
-        return Value::Is(1);
+    if b == 82 || b == 67 {
+        let n = if b == 82 { 0 } else { 1 }; // by its number
+        return Value::Is(n);
     }
     Value::Not
 }
@@ -258,11 +260,9 @@ pub fn side_in(s: &[u8], at: Place, end: Place) -> Value
         return Value::Not;
     }
     let b = s[at]; // a byte
-    if b == 83 {
-        return Value::Is(0);
-    }
-    if b == 80 {
-        return Value::Is(1);
+    if b == 83 || b == 80 {
+        let n = if b == 83 { 0 } else { 1 }; // by its number
+        return Value::Is(n);
     }
     Value::Not
 }

@@ -13,7 +13,7 @@ use Rattle.paper.specs.Lists.{every}
 use Rattle.paper.specs.Text.{isDigit, decimal, dateIn}
 use Rattle.paper.proofs.Lists.{when-some}
 use Rattle.fields.specs.Values.{digitsIn}
-use Rattle.fields.proofs.Answers.{is-value, not-value, when-none}
+use Rattle.fields.proofs.Answers.{when-none, digits-told}
 use Rattle.fields.proofs.date_in.Statement.{statement}
 use Rattle.fields.proofs.date_in.Tie as tie
 
@@ -46,29 +46,21 @@ returns c =
 digits-in-requires : tie.Need-digits-in-requires
 digits-in-requires c κs = search needs
 
-enum-known-n : tie.Need-enum-known-n
-enum-known-n c = search needs
-
-enum-told : tie.Need-enum-told
-enum-told c = search needs
-
 returns-2 : tie.Need-returns-2
 returns-2 c =
-    let a = c .before .before .before .before .before .args in
+    let a = c .before .before .before .before .args in
     let t = slice (a .at) (a .end) (a .s .now) in
-    sym (not-digits t (not-value (digitsIn t) (sym (c .before .before .digits-in .ensures) ∙ c .enum-told .given .1)))
+    sym (not-digits t (c .before .digits-in .ensures .1 (c .if2 .taken)))
 
 returns-3 : tie.Need-returns-3
 returns-3 c =
-    let a = c .before .before .before .before .before .before .args in
+    let a = c .before .before .before .before .args in
     let t = slice (a .at) (a .end) (a .s .now) in
-    let n = c .before .n .given .0 .0 in
+    let n = c .before .digits-in .result in
     let size = length-slice (a .at) (a .end) (a .s .now) (omega arith) in
-    sym
-    (eight-digits t n (size ∙ c .before .before .before .before .if1 .left)
-    (is-value (digitsIn t) n (sym (c .before .before .before .digits-in .ensures) ∙ c .before .n .given .1)))
+    sym (eight-digits t n (size ∙ c .before .before .if1 .left) (digits-told (digitsIn t) n (c .before .digits-in .ensures .0) (c .if2 .left)))
 
 pub date-in-spec : {M : Type 1} → statement M
 date-in-spec =
     tie.close
-    (tie.spec sub-if1 returns digits-in-requires enum-known-n enum-told returns-2 returns-3)
+    (tie.spec sub-if1 returns digits-in-requires returns-2 returns-3)

@@ -16,6 +16,7 @@ use Rattle.paper.specs.Lists.{every, between}
 use Rattle.paper.specs.Text.{isDigit, isNumber, numberIn}
 use Rattle.paper.proofs.Lists.{every-step}
 use Rattle.fields.specs.Values.{value, digitsIn}
+use Rattle.fields.proofs.Answers.{digits-told}
 use Rattle.fields.proofs.number_in.Statement.{statement}
 use Rattle.fields.proofs.number_in.Tie as tie
 
@@ -91,15 +92,29 @@ returns-3 c =
 digits-in-requires : tie.Need-digits-in-requires
 digits-in-requires c κs = search needs
 
+-- What is left is read as digits are
+module _ (c : tie.After-digits-in) where
+  abbrev field : Text
+  field =
+      let a = c .before .before .before .before .before .args in
+      slice (a .at) (a .end) (a .s .now)
+
+  left : numberIn field ≡ digitsIn field
+  left =
+      let a = c .before .before .before .before .before .args in
+      let size = length-slice (a .at) (a .end) (a .s .now) (omega arith) in
+      let front : 1 < length field → getD field 0 0 ≡ 48 → ⊥ =
+      ⊎-elim (λ w h e. w .2 .left (sym (first (a .s .now) (a .at) (a .end) (omega arith) (omega arith)) ∙ e)) (λ w h e. omega arith)
+      (c .before .if3 .came) in
+      as-digits field (omega arith) (all-digits field (omega arith) front)
+
 returns-4 : tie.Need-returns-4
-returns-4 c =
-    let a = c .before .before .before .before .before .args in
-    let t = slice (a .at) (a .end) (a .s .now) in
-    let size = length-slice (a .at) (a .end) (a .s .now) (omega arith) in
-    let front : 1 < length t → getD t 0 0 ≡ 48 → ⊥ =
-    ⊎-elim (λ w h e. w .2 .left (sym (first (a .s .now) (a .at) (a .end) (omega arith) (omega arith)) ∙ e)) (λ w h e. omega arith)
-    (c .before .if3 .came) in
-    c .digits-in .ensures ∙ sym (ap value (as-digits t (omega arith) (all-digits t (omega arith) front)))
+returns-4 c = sym (ap value (left (c .before) ∙ c .before .digits-in .ensures .1 (c .if5 .taken)))
+
+returns-5 : tie.Need-returns-5
+returns-5 c =
+    let b = c .before in
+    sym (ap value (left b ∙ digits-told (digitsIn (field b)) (b .digits-in .result) (b .digits-in .ensures .0) (c .if5 .left)))
 
 pub number-in-spec : {M : Type 1} → statement M
 number-in-spec =
@@ -111,4 +126,5 @@ number-in-spec =
     shared-slice-read-if4
     returns-3
     digits-in-requires
-    returns-4)
+    returns-4
+    returns-5)
