@@ -36,6 +36,7 @@ use Rattle.fields.proofs.trade_in.Reads as fields-trade-in
 use Rattle.fields.proofs.side_in.Reads as fields-side-in
 use Rattle.fields.proofs.is_code.Reads as fields-is-code
 use Rattle.fields.proofs.code_number.Reads as fields-code-number
+use Rattle.fields.proofs.code_in.Reads as fields-code-in
 use Rattle.fields.proofs.is_currency.Reads as fields-is-currency
 use Rattle.fields.proofs.compare.Reads as fields-compare
 use Rattle.searches.proofs.class_of.Reads as searches-class-of
@@ -162,6 +163,9 @@ fields-is-code-fixed κs a x y s u p q = one p q
 
 pub fields-code-number-fixed : Fixes fields-code-number.Post
 fields-code-number-fixed κs a x y s u p q = one p q
+
+pub fields-code-in-fixed : Fixes fields-code-in.Post
+fields-code-in-fixed κs a x y s u p q = one p q
 
 pub fields-is-currency-fixed : Fixes fields-is-currency.Post
 fields-is-currency-fixed κs a x y s u p q = one p q

@@ -16,7 +16,7 @@ use Rattle.paper.specs.Text.{same, before, isDigit, isLetter, isCode}
 use Rattle.paper.proofs.Lists.{never, both, within, bounds, every-cons, every-append, every-weaker}
 use Rattle.paper.proofs.Order.{same-refl, before-self, before-not-after, before-not-same, after-not-same}
 use Rattle.paper.proofs.Order.{Compared, first, equal, second, compared}
-use Rattle.fields.specs.Values.{codeFrom, codeNumber}
+use Rattle.fields.specs.Values.{codeFrom, codeNumber, codeOr}
 
 -- Bytes from `0` to `Z`, so many before the last, which is a digit
 pub data Coded : ℕ → Text → Type 0 where
@@ -135,3 +135,19 @@ module _ (s t : Text) (s-code : isCode s ≡ true) (t-code : isCode t ≡ true) 
       go (second e) =
           let l = less 0 (code-coded t t-code) (code-coded s s-code) e in
           after-not-same s t e ∙ sym (ne-eqb (codeNumber s) (codeNumber t) (λ k. omega (arith, l)))
+
+-- What a field that is read as a code tells: one that is not the highest number is a code, and its number
+pub code-told : (t : Text) (n : ℕ) → n ≡ codeOr t → (n ≡ 18446744073709551615 → ⊥) → (isCode t ≡ true) × (n ≡ codeNumber t)
+code-told t n e other = go (isCode t) refl
+  where
+    go : (b : Bool) → isCode t ≡ b → (isCode t ≡ true) × (n ≡ codeNumber t)
+    go true k = (k, e ∙ rw k)
+    go false k = absurd (other (e ∙ rw k))
+
+-- And the highest is not
+pub code-missed : (t : Text) (n : ℕ) → n ≡ codeOr t → n ≡ 18446744073709551615 → isCode t ≡ false
+code-missed t n e highest = go (isCode t) refl
+  where
+    go : (b : Bool) → isCode t ≡ b → isCode t ≡ false
+    go true k = let one : n ≡ codeNumber t = e ∙ rw k in absurd (omega (arith, code-number-low t k))
+    go false k = k

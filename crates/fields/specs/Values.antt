@@ -7,7 +7,7 @@ use lib.Dec.{eqb}
 use lib.IntN.{ℤ}
 use Rattle.paper.specs.Units.{Byte, Text, Duration, Rate}
 use Rattle.paper.specs.Lists.{between, every, when, _>>=_}
-use Rattle.paper.specs.Text.{same, before, isDigit, isLetter, decimal, numberIn, signedIn}
+use Rattle.paper.specs.Text.{same, before, isDigit, isLetter, decimal, numberIn, signedIn, isCode}
 use Rattle.paper.specs.Rows.{Kind, government, corporate, inflation, floating, Trade, repo, cash, Side, seller, purchaser}
 use Rattle.paper.specs.Refusals.{isRate}
 use Rattle.fields.specs.declared.Value.{Value}
@@ -81,6 +81,10 @@ codeFrom n (b ∷ c ∷ t) = codeFrom (43 * n + (b - 48)) (c ∷ t)
 -- The whole code
 abbrev pub codeNumber : Text → ℕ
 codeNumber = codeFrom 0
+
+-- A text that is a code as its number; for any other the highest number of 64 bits, which no code has
+abbrev pub codeOr : Text → ℕ
+codeOr t = cond (isCode t) (codeNumber t) 18446744073709551615
 
 -- How two texts stand to each other, by bytes
 abbrev pub orderOf : Text → Text → Order

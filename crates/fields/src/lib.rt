@@ -9,7 +9,7 @@ ghost use lib.Seq.{slice};
 ghost use Rattle.paper.specs.Lists.{between, every};
 ghost use Rattle.paper.specs.Text.{LF, numberIn, dateIn, isCode, isCurrency};
 ghost use Rattle.paper.specs.Rows.{kindIn, tradeIn, sideIn};
-ghost use Rattle.fields.specs.Values.{value, signed, digitsIn, digitsOr, rangedIn, rateIn, durationIn, kindNumber, tradeNumber, sideNumber, inSet, codeNumber, orderOf};
+ghost use Rattle.fields.specs.Values.{value, signed, digitsIn, digitsOr, rangedIn, rateIn, durationIn, kindNumber, tradeNumber, sideNumber, inSet, codeNumber, codeOr, orderOf};
 ghost use Rattle.fields.specs.Places.{endedLength, lineAt};
 
 pub type Place = usize; // in the sheet, in bytes from its start
@@ -349,6 +349,17 @@ pub fn code_number(s: &[u8], at: Place) -> u64
     }
     let last = s[at + 11] as u64; // a byte
     10 * n + (last - 48)
+}
+
+// A field that is a code as its number, the highest number for any other.
+pub fn code_in(s: &[u8], at: Place, end: Place) -> u64
+    requires { ⌜ (at ≤ end) × (end ≤ length (now s)) ⌝ }
+    ensures { λ r. ⌜ r ≡ codeOr (slice at end (now (s .entry))) ⌝ }
+{
+    if !is_code(s, at, end) {
+        return 18446744073709551615;
+    }
+    code_number(s, at)
 }
 
 // Whether a field is a currency: three letters.

@@ -1,4 +1,4 @@
--- A number's digits by its ones and tens, and by two and four at a time.
+-- A number's digits by its ones and tens, and by two, four and eight at a time.
 use Prim.Native.Nat.{ℕ, zero, suc, _+_, _/_, _%_, _≤_, _<_}
 use native.Mathlib.Omega.{arith}
 use mathlib.Core.Bool.{Bool, true, false}
@@ -8,7 +8,7 @@ use borrow.Author.Tests.{ltb-false, lt-ltb, le-ltb}
 use lib.Dec.{ltb}
 use Rattle.paper.specs.Units.{Text}
 use Rattle.paper.specs.Text.{digitsBefore, digits}
-use Rattle.lines.specs.Written.{pair, four}
+use Rattle.lines.specs.Written.{pair, four, eight}
 
 -- What stands behind digits has no part in them, nor how many are allowed, where that is enough
 behind : (a b n : ℕ) (s t : Text) → n < a → n < b → digitsBefore a n (s ++ t) ≡ digitsBefore b n s ++ t
@@ -55,3 +55,12 @@ digits-myriads n h =
     let ones : n % 100 ≡ n % 10_000 % 100 = omega arith in
     rw (digits-hundreds n (omega arith), digits-hundreds (n / 100) (omega arith), myriads, hundreds, ones)
     (append-assoc (digits (n / 10_000)) (pair (n % 10_000 / 100)) (pair (n % 10_000 % 100)))
+
+-- From a hundred million on it is its hundred millions, then eight
+pub digits-hundred-millions : (n : ℕ) → 100_000_000 ≤ n → digits n ≡ digits (n / 100_000_000) ++ eight (n % 100_000_000)
+digits-hundred-millions n h =
+    let millions : n / 10_000 / 10_000 ≡ n / 100_000_000 = omega arith in
+    let myriads : n / 10_000 % 10_000 ≡ n % 100_000_000 / 10_000 = omega arith in
+    let ones : n % 10_000 ≡ n % 100_000_000 % 10_000 = omega arith in
+    rw (digits-myriads n (omega arith), digits-myriads (n / 10_000) (omega arith), millions, myriads, ones)
+    (append-assoc (digits (n / 100_000_000)) (four (n % 100_000_000 / 10_000)) (four (n % 100_000_000 % 10_000)))

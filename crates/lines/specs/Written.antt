@@ -24,6 +24,10 @@ pair n = (48 + n / 10) ∷ (48 + n % 10) ∷ []
 abbrev pub four : ℕ → Text
 four n = pair (n / 100) ++ pair (n % 100)
 
+-- The eight digits of a number below a hundred million
+abbrev pub eight : ℕ → Text
+eight n = four (n / 10_000) ++ four (n % 10_000)
+
 -- The currency at a place of a sheet: three letters
 abbrev pub currencyAt : Text → Place → Currency
 currencyAt sheet at = slice at (at + 3) sheet

@@ -6,7 +6,7 @@ ghost use mathlib.Core.List.{[], _∷_, _++_};
 ghost use lib.IntN.{natAbs};
 ghost use lib.ListN.{length};
 ghost use Rattle.paper.specs.Text.{semicolon, digits, signedDigits};
-ghost use Rattle.lines.specs.Written.{Wrote, pair, four, currencyAt, markLine, positionLine, totalLine, refusalLine};
+ghost use Rattle.lines.specs.Written.{Wrote, pair, four, eight, currencyAt, markLine, positionLine, totalLine, refusalLine};
 
 // One byte.
 fn put_byte(
@@ -104,7 +104,36 @@ fn put_small(
     put_pair(report, ones, n % 100)
 }
 
-// A number: the digits of its ten thousands, then four more. Four at a time, as calls and divisions of 64 bits are dear.
+// A number below a hundred million, without a 0 before it.
+fn put_middle(
+    report: &mut [u8],
+    at: Place, // in the report
+    n: u64, // any unit
+) -> Place
+    requires { ⌜ (n < 100_000_000) × (at + length (digits n) ≤ length (now report)) ⌝ }
+    ensures { λ r. ⌜ Wrote (digits n) at (now (report .entry)) r (now (report .exit)) ⌝ }
+{
+    if n < 10000 {
+        return put_small(report, at, n);
+    }
+    let last = put_small(report, at, n / 10000);
+    put_four(report, last, n % 10000)
+}
+
+// The eight digits of a number below a hundred million.
+fn put_eight(
+    report: &mut [u8],
+    at: Place, // in the report
+    n: u64, // any unit
+) -> Place
+    requires { ⌜ (n < 100_000_000) × (at + 8 ≤ length (now report)) ⌝ }
+    ensures { λ r. ⌜ Wrote (eight n) at (now (report .entry)) r (now (report .exit)) ⌝ }
+{
+    let last = put_four(report, at, n / 10000);
+    put_four(report, last, n % 10000)
+}
+
+// A number: the digits of its hundred millions, then eight more. Eight at a time, as calls and divisions of 64 bits are dear.
 fn put_number(
     report: &mut [u8],
     at: Place, // in the report
@@ -113,11 +142,11 @@ fn put_number(
     requires { ⌜ at + length (digits n) ≤ length (now report) ⌝ }
     ensures { λ r. ⌜ Wrote (digits n) at (now (report .entry)) r (now (report .exit)) ⌝ }
 {
-    if n < 10000 {
-        return put_small(report, at, n);
+    if n < 100000000 {
+        return put_middle(report, at, n);
     }
-    let last = put_number(report, at, n / 10000);
-    put_four(report, last, n % 10000)
+    let last = put_number(report, at, n / 100000000);
+    put_eight(report, last, n % 100000000)
 }
 
 // A number and the byte that ends its field.

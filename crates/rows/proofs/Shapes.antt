@@ -16,7 +16,7 @@ use Rattle.paper.specs.Rows as paper
 use Rattle.paper.specs.Rows.{Trade, repo, cash, Side, field, kindIn, tradeIn, sideIn, readDate, readClass, readPriority, readSecurity, readTrade}
 use Rattle.paper.specs.Refusals.{isRate, follows, dateRules, classRules, priorityRules, securityRules, tradeRules}
 use Rattle.fields.specs.Places.{Place, lineAt}
-use Rattle.fields.specs.Values.{value, rangedIn, rateIn, durationIn, kindNumber, tradeNumber, sideNumber}
+use Rattle.fields.specs.Values.{value, rangedIn, rateIn, durationIn, kindNumber, tradeNumber, sideNumber, codeNumber}
 use Rattle.fields.specs.declared.Line.{Line}
 use Rattle.rows.specs.Fields.{fieldsAt}
 use Rattle.rows.specs.Held.{fieldPlace, heldDate, heldClass, heldPriority, heldSecurity, heldTrade}
@@ -192,11 +192,11 @@ module _ (sheet : Text) (at : Place) (fs : Fields) (behind : Place) where
 -- ---- T
 
 -- What ends a T row, put behind its first fields
-abbrev pub tradeWith : ℕ → ℕ → Place → ℕ → ℕ → Place → TermRead → TradeRead
-tradeWith trade side code nominal amount behind (terms.Refused number) = trades.Refused number
-tradeWith trade side code nominal amount behind (terms.Term t) =
+abbrev pub tradeWith : ℕ → ℕ → Place → ℕ → ℕ → ℕ → Place → TermRead → TradeRead
+tradeWith trade side code key nominal amount behind (terms.Refused number) = trades.Refused number
+tradeWith trade side code key nominal amount behind (terms.Term t) =
     trades.Row
-    (record { trade = trade; side = side; code = code; nominal = nominal; amount = amount; first = t .first; last = t .last; rate = t .rate })
+    (record { trade = trade; side = side; code = code; key = key; nominal = nominal; amount = amount; first = t .first; last = t .last; rate = t .rate })
     behind
 
 abbrev pub tradeFrom : Place → Text → Text → Text → Text → Text → Text → Text → Text → Place → TradeRead
@@ -206,7 +206,7 @@ tradeFrom code-place trade side code nominal amount first last rate behind =
     cond (isCode code)
     (onward (trades.Refused 6) (value (rangedIn 1 100_000_000 nominal)) λ nominal.
     onward (trades.Refused 6) (value (rangedIn 1 30_000_000_000 amount)) λ amount.
-    tradeWith trade side code-place nominal amount behind (termIn trade first last rate))
+    tradeWith trade side code-place (codeNumber code) nominal amount behind (termIn trade first last rate))
     (trades.Refused 6)
 
 -- A blank is no day
@@ -226,7 +226,7 @@ module _ (sheet : Text) (at behind : Place) where
         some (record { trade = trade; side = side; code = code; nominal = nominal; amount = amount; first = dateIn first; last = last; rate = rate })
 
     abbrev with-term : Trade → TermRead → TradeRead
-    with-term trade = tradeWith (tradeNumber trade) (sideNumber side) (fieldPlace sheet at 2) nominal amount behind
+    with-term trade = tradeWith (tradeNumber trade) (sideNumber side) (fieldPlace sheet at 2) (codeNumber code) nominal amount behind
 
     abbrev lastIn : Text → Option (Option Date)
     lastIn = orBlank (λ t. some (dateIn t))

@@ -1,4 +1,4 @@
--- The paper's rows as the code holds them: a code and a currency as places, a kind, a trade and a side as numbers, each
+-- The paper's rows as the code holds them: a code and a currency as places, a trade's code as its number too, a kind, a trade and a side as numbers, each
 -- date with its day, and 0 for what is blank.
 use Prim.Native.Nat.{ℕ, suc}
 use mathlib.Core.Option.{Option·getD}
@@ -9,7 +9,7 @@ use Rattle.paper.specs.Days.{day}
 use Rattle.paper.specs.Rows as paper
 use Rattle.paper.specs.Valuation.{lastDay}
 use Rattle.fields.specs.Places.{Place, lineAt}
-use Rattle.fields.specs.Values.{kindNumber, tradeNumber, sideNumber}
+use Rattle.fields.specs.Values.{kindNumber, tradeNumber, sideNumber, codeNumber}
 use Rattle.rows.specs.declared.DateRow.{DateRow}
 use Rattle.rows.specs.declared.ClassRow.{ClassRow}
 use Rattle.rows.specs.declared.PriorityRow.{PriorityRow}
@@ -54,6 +54,7 @@ heldTrade sheet at t =
       trade = tradeNumber (t .trade);
       side = sideNumber (t .side);
       code = fieldPlace sheet at 2;
+      key = codeNumber (t .code);
       nominal = t .nominal;
       amount = t .amount;
       first = heldDate (t .first);

@@ -78,6 +78,7 @@ pub struct TradeRow {
     pub trade: u64, // 0 repo, 1 cash
     pub side: u64, // 0 seller, 1 purchaser
     pub code: Place,
+    pub key: u64, // the code as one number
     pub nominal: u64, // whole units
     pub amount: u64, // cents
     pub first: DateRow,
@@ -423,7 +424,8 @@ pub fn trade_row(s: &[u8], years: &[Day; 400], at: Place, end: Place) -> TradeRe
         return TradeRead::Refused(6);
     };
     let code = line.ends[2] + 1;
-    if !fields::is_code(s, code, line.ends[3]) {
+    let key = fields::code_in(s, code, line.ends[3]); // the code as one number
+    if key == 18446744073709551615 {
         return TradeRead::Refused(6);
     }
     let Value::Is(nominal) = fields::ranged_in(s, line.ends[3] + 1, line.ends[4], 1, 100_000_000)
@@ -452,6 +454,7 @@ pub fn trade_row(s: &[u8], years: &[Day; 400], at: Place, end: Place) -> TradeRe
         trade: trade,
         side: side,
         code: code,
+        key: key,
         nominal: nominal,
         amount: amount,
         first: first,

@@ -1,5 +1,5 @@
 -- What is looked for among the rows above: a class, a currency, whether a code rises, and a code among rising ones.
-use Prim.Native.Nat.{ℕ, suc, _+_, _-_, _≤_, _<_}
+use Prim.Native.Nat.{ℕ, suc, _+_, _-_, _*_, _≤_, _<_}
 use mathlib.Core.Bool.{Bool, true, false, _&&_}
 use mathlib.Core.List.{List, [], _∷_, _++_, map}
 use mathlib.Core.Option.{Option, none, some, Option·map}
@@ -53,6 +53,10 @@ rankIn (d ∷ ds) c = elim (same d c) [ true ↦ 0 | false ↦ suc (rankIn ds c)
 abbrev pub insertedAt : Currencies → ℕ → Place → Currencies
 insertedAt c rank at =
     record { count = suc (c .count); places = take rank (c .places) ++ (at ∷ take (c .count - rank) (drop rank (c .places))) ++ drop (suc (c .count)) (c .places) }
+
+-- Three bytes as one number, which orders as they do
+pub data Numbered : Text → ℕ → Type 0 where
+  numbered : {a b c : ℕ} → a < 256 → b < 256 → c < 256 → Numbered (a ∷ b ∷ c ∷ []) (65536 * a + 256 * b + c)
 
 -- Whether a code comes after the last of the codes above
 abbrev pub risesOver : Text → List Place → Place → Bool

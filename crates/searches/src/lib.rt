@@ -6,7 +6,7 @@ ghost use mathlib.Core.Path.{_≡_};
 ghost use Prim.Native.Nat.{_+_, _≤_, _<_};
 ghost use lib.ListN.{length, take};
 ghost use Rattle.fields.specs.Values.{value};
-ghost use Rattle.searches.specs.Searches.{Within, Coded, Searchable, classPlace, rankedOf, insertedAt, risesOver, keysOf, numberPlace};
+ghost use Rattle.searches.specs.Searches.{Within, Coded, Searchable, classPlace, rankedOf, insertedAt, risesOver, keysOf, numberPlace, textAt, Numbered};
 
 pub type Key = u64; // a code as one number
 
@@ -47,7 +47,16 @@ pub fn class_of(
     Value::Not
 }
 
-// Where the currency at a place stands among rising ones: behind those that come before it.
+// The three bytes at a place as one number, which orders as they do.
+fn three(s: &[u8], at: Place) -> u64
+    requires { ⌜ at + 3 ≤ length (now s) ⌝ }
+    ensures { λ r. ⌜ Numbered (textAt 3 (now (s .entry)) at) r ⌝ }
+{
+    65536 * (s[at] as u64) + 256 * (s[at + 1] as u64) + s[at + 2] as u64
+}
+
+// Where the currency at a place stands among rising ones: behind those that come before it. Eight turns, whatever the bytes: no
+// branch depends on them, since one that is guessed wrong costs more than the few steps left.
 pub fn ranked(
     s: &[u8],
     currencies: &[Place; 8],
@@ -58,30 +67,25 @@ pub fn ranked(
     ensures { λ r. ⌜ r ≡ rankedOf (now (s .entry)) (take count (now (currencies .entry))) at ⌝ }
 {
     let currencies: &[Place] = currencies; // as a slice: a proof is told its length
+    let own = three(s, at);
+    let mut rank: usize = 0; // currencies before it
+    let mut more: usize = 1; // 1 while all so far come before it, then 0
     let mut i: usize = 0; // currencies
-    while i < count {
-        let order = fields::compare(s, currencies[i], at, 3);
-        match order {
-            Order::Before => {
-                i += 1;
-            }
-            Order::Same => {
-                return Standing {
-                    rank: i,
-                    there: true,
-                };
-            }
-            Order::After => {
-                return Standing {
-                    rank: i,
-                    there: false,
-                };
-            }
-        }
+    while i < 8 {
+        let place = if i < count { currencies[i] } else { at };
+        let next = if three(s, place) < own { more } else { 0 };
+        rank += next;
+        more = next;
+        i += 1;
     }
+    let there = if rank < count {
+        three(s, currencies[rank]) == own
+    } else {
+        false
+    };
     Standing {
-        rank: count,
-        there: false,
+        rank: rank,
+        there: there,
     }
 }
 

@@ -106,6 +106,7 @@ fn refused(number: Number, line: LineNumber) -> Sheet
         trade: 0,
         side: 0,
         code: 0,
+        key: 0,
         nominal: 0,
         amount: 0,
         first: none,

@@ -28,7 +28,8 @@ use Rattle.rows.specs.declared.TradeRead.the-variants as reads
 use Rattle.rows.proofs.Loops.{judgedOn, row-part, shaped-holds, shaped-read}
 use Rattle.rows.proofs.Texts.{field-text}
 use Rattle.paper.proofs.Fields.{code-length}
-use Rattle.searches.specs.Searches.{textAt, placeIn}
+use Rattle.fields.specs.Values.{codeNumber}
+use Rattle.searches.specs.Searches.{textAt, placeIn, numberAt}
 use Rattle.searches.proofs.Rules.{place-given, place-found}
 use Rattle.trades.specs.Tables.{Stands, marginedRow, accrualRow, periodHolds, heldFound, tradeJudged}
 use Rattle.trades.specs.declared.Trade.{Trade}
@@ -165,20 +166,21 @@ module _ (sheet : Text) (today working : Day) (is-working : working ≡ workingA
           (place-given sheet codes p ss (t .code) (stands .codes-of) text)
           (λ there. period-agrees at t text (ltb-true (placeIn sheet codes p) (length codes) there))
 
--- A T row that was read has a code at its place, and the next line behind it
+-- A T row that was read has a code at its place, and its number, and the next line behind it
 pub read-row : (sheet : Text) (at : Place) (t : TradeRow) (behind : Place) → at < endedLength sheet → tradeRead sheet at ≡ reads.Row t behind
-    → (isCode (textAt 12 sheet (t .code)) ≡ true) × (behind ≡ lineAt sheet at .next)
+    → (isCode (textAt 12 sheet (t .code)) ≡ true) × (t .key ≡ numberAt sheet (t .code)) × (behind ≡ lineAt sheet at .next)
 read-row sheet at t behind h e = go (tradeShape (fieldsAt sheet at)) refl e
   where
     held : Outcome paper.TradeRow → TradeRead
     held o = elim o [ refused number line ↦ reads.Refused number | accepted t ↦ reads.Row (heldTrade sheet at t) (lineAt sheet at .next) ]
 
     go : (o : Outcome paper.TradeRow) → tradeShape (fieldsAt sheet at) ≡ o → held o ≡ reads.Row t behind
-        → (isCode (textAt 12 sheet (t .code)) ≡ true) × (behind ≡ lineAt sheet at .next)
+        → (isCode (textAt 12 sheet (t .code)) ≡ true) × (t .key ≡ numberAt sheet (t .code)) × (behind ≡ lineAt sheet at .next)
     go (refused number line) s e = let z : _≡_ {A = ℕ} 0 1 = cc in absurd (omega arith)
     go (accepted p) s e =
         let same : heldTrade sheet at p ≡ t = cc in
         let next : lineAt sheet at .next ≡ behind = cc in
         let code : fieldPlace sheet at 2 ≡ t .code = ap (λ (t : TradeRow). t .code) same in
         let (text, is-code) = code-text sheet at p h s in
-        (ap (λ (at : Place). isCode (textAt 12 sheet at)) (sym code) ∙ ap isCode text ∙ is-code, sym next)
+        let there : textAt 12 sheet (t .code) ≡ p .code = ap (textAt 12 sheet) (sym code) ∙ text in
+        (ap isCode there ∙ is-code, ap (λ (t : TradeRow). t .key) (sym same) ∙ ap codeNumber (sym there), sym next)

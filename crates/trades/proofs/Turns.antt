@@ -59,7 +59,7 @@ row-taken sheet today working codes previous next count at trade behind h e = go
         asked true f true false e = not-row e
         asked true f true true e =
             let same : next-line ≡ behind = cc in
-            (ltb-true count 500 f, sym same ∙ read-row sheet at t next-line h r .1)
+            (ltb-true count 500 f, sym same ∙ read-row sheet at t next-line h r .2)
 
 -- The loop after so many rows, where the securities are some
 abbrev pub TradesGoing : Text → Day → List Place → Place → List paper.SecurityRow → List Trade → ℕ → Place → Type 0

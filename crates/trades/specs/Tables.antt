@@ -60,6 +60,7 @@ noTrade =
         trade = 0;
         side = 0;
         code = 0;
+        key = 0;
         nominal = 0;
         amount = 0;
         first = record { date = 0; day = 0 };

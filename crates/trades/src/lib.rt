@@ -86,6 +86,7 @@ fn no_trade() -> Trade
         trade: 0,
         side: 0,
         code: 0,
+        key: 0,
         nominal: 0,
         amount: 0,
         first: DateRow { date: 0, day: 0 },
@@ -134,7 +135,7 @@ fn trade_at(
     if 500 <= count {
         return TradeFound::Refused(8);
     }
-    let place = searches::find(keys, many, fields::code_number(s, row.code));
+    let place = searches::find(keys, many, row.key);
     if many <= place {
         return TradeFound::Refused(10);
     }

@@ -1,4 +1,4 @@
--- `lines::put_number` meets its contract: from ten thousand on a number is its ten thousands and behind them four digits.
+-- `lines::put_number` meets its contract: from a hundred million on a number is its hundred millions and behind them eight digits.
 -- The measure is the number.
 use Prim.Native.Nat.{ℕ, _+_, _/_, _%_, _≤_, _<_}
 use native.Mathlib.Omega.{arith}
@@ -8,11 +8,11 @@ use borrow.Fn.Kinds.{In}
 use borrow.Fn.PlainCycle.{Measures, is, falls, and}
 use lib.ListN.{length, length-append}
 use Rattle.paper.specs.Text.{digits}
-use Rattle.lines.specs.Written.{four}
-use Rattle.lines.proofs.Digits.{digits-myriads}
+use Rattle.lines.specs.Written.{eight}
+use Rattle.lines.proofs.Digits.{digits-hundred-millions}
 use Rattle.lines.proofs.Written.{room, joined}
-use Rattle.lines.proofs.put_four.Reads as put-four
-use Rattle.lines.proofs.put_small.Reads as put-small
+use Rattle.lines.proofs.put_eight.Reads as put-eight
+use Rattle.lines.proofs.put_middle.Reads as put-middle
 use Rattle.lines.proofs.put_number.Reads as put-number
 use Rattle.lines.proofs.put_number.Kinds as put-number-kinds
 use Rattle.lines.proofs.+put_number.Lts-put_number as lts
@@ -28,17 +28,17 @@ given t = and 1 put-number-kinds.ps (is 1 put-number-kinds.ps μ t) put-number.P
 
 abbrev calls : ℕ → lts.Claims
 calls t = (
-  put-small.Asked,
-  put-small.Learnt,
+  put-middle.Asked,
+  put-middle.Learnt,
   and 1 put-number-kinds.ps (falls 1 put-number-kinds.ps _<_ μ t) put-number.Pre,
   put-number.Post,
-  put-four.Asked,
-  put-four.Learnt,
+  put-eight.Asked,
+  put-eight.Learnt,
 )
 
 module _ (t : ℕ) where
-  put-small-requires : lts.Need-put-small-requires (calls t) (given t) put-number.Post
-  put-small-requires c κs = search needs
+  put-middle-requires : lts.Need-put-middle-requires (calls t) (given t) put-number.Post
+  put-middle-requires c κs = search needs
 
   same-length : lts.Need-same-length (calls t) (given t) put-number.Post
   same-length c = search needs
@@ -46,27 +46,27 @@ module _ (t : ℕ) where
   returns : lts.Need-returns (calls t) (given t) put-number.Post
   returns c = search needs
 
-  -- The ten thousands and the four digits fit
+  -- The hundred millions and the eight digits fit
   both-fit : (c : lts.Else1 (calls t) (given t) put-number.Post) → (let s = c .before .before in
-      s .args .at + length (digits (s .args .n / 10_000) ++ four (s .args .n % 10_000)) ≤ length (s .args .report .now))
+      s .args .at + length (digits (s .args .n / 100_000_000) ++ eight (s .args .n % 100_000_000)) ≤ length (s .args .report .now))
   both-fit c =
       let s = c .before .before in
-      rw (digits-myriads (s .args .n) (c .if1 .left)) at (s .pre .1)
+      rw (digits-hundred-millions (s .args .n) (c .if1 .left)) at (s .pre .1)
 
   put-number-requires : lts.Need-put-number-requires (calls t) (given t) put-number.Post
   put-number-requires c κs =
       let n = c .before .before .before .args .n in
-      omega (arith, both-fit (c .before), length-append (digits (n / 10_000)) (four (n % 10_000)))
+      omega (arith, both-fit (c .before), length-append (digits (n / 100_000_000)) (eight (n % 100_000_000)))
 
-  put-four-requires : lts.Need-put-four-requires (calls t) (given t) put-number.Post
-  put-four-requires c κs =
-      let myriads = c .before .before .before in
-      let s = myriads .before .before .before .before in
+  put-eight-requires : lts.Need-put-eight-requires (calls t) (given t) put-number.Post
+  put-eight-requires c κs =
+      let millions = c .before .before .before in
+      let s = millions .before .before .before .before in
       omega (
         arith,
-        room (digits (s .args .n / 10_000)) (four (s .args .n % 10_000)) (s .args .at) (s .args .report .now)
-            (both-fit (myriads .before .before))
-            (myriads .put-number .ensures),
+        room (digits (s .args .n / 100_000_000)) (eight (s .args .n % 100_000_000)) (s .args .at) (s .args .report .now)
+            (both-fit (millions .before .before))
+            (millions .put-number .ensures),
       )
 
   same-length-2 : lts.Need-same-length-2 (calls t) (given t) put-number.Post
@@ -75,13 +75,13 @@ module _ (t : ℕ) where
   returns-2 : lts.Need-returns-2 (calls t) (given t) put-number.Post
   returns-2 c =
       let last = c .before .before in
-      let myriads = last .before .before .before .before in
-      let s = myriads .before .before .before .before in
-      rw (digits-myriads (s .args .n) (myriads .before .before .if1 .left))
-      (joined (digits (s .args .n / 10_000)) (four (s .args .n % 10_000)) (s .args .at) (s .args .report .now)
-      (both-fit (myriads .before .before))
-      (myriads .put-number .ensures)
-      (last .put-four .ensures))
+      let millions = last .before .before .before .before in
+      let s = millions .before .before .before .before in
+      rw (digits-hundred-millions (s .args .n) (millions .before .before .if1 .left))
+      (joined (digits (s .args .n / 100_000_000)) (eight (s .args .n % 100_000_000)) (s .args .at) (s .args .report .now)
+      (both-fit (millions .before .before))
+      (millions .put-number .ensures)
+      (last .put-eight .ensures))
 
 pub +put-number-spec : {M : Type 1} → statement M
 +put-number-spec =
@@ -91,10 +91,10 @@ pub +put-number-spec : {M : Type 1} → statement M
     (calls t)
     (given t)
     put-number.Post
-    (put-small-requires t)
+    (put-middle-requires t)
     (same-length t)
     (returns t)
     (put-number-requires t)
-    (put-four-requires t)
+    (put-eight-requires t)
     (same-length-2 t)
     (returns-2 t))

@@ -16,7 +16,8 @@ use Rattle.paper.specs.Units.{Text}
 use Rattle.paper.specs.Text.{isCode}
 use Rattle.paper.specs.Rows.{tradeIn, sideIn, readTrade}
 use Rattle.paper.specs.Refusals.{tradeRules}
-use Rattle.fields.specs.Values.{value, rangedIn, tradeNumber, sideNumber}
+use Rattle.fields.specs.Values.{value, rangedIn, tradeNumber, sideNumber, codeNumber}
+use Rattle.fields.proofs.Numbers.{code-told, code-missed}
 use Rattle.fields.specs.declared.Value.the-variants as values
 use Rattle.rows.specs.Fields.{fieldsAt}
 use Rattle.rows.specs.Held.{heldTrade}
@@ -57,8 +58,8 @@ trade-is c = sym (c .before .before .trade-in .ensures) ∙ c .trade .given .1
 side-is : (c : tie.After-side) → value (Option·map sideNumber (sideIn (piece (c .before .before .before .before .before .before .before .before .before .before .before) 1))) ≡ values.Is (c .side .given .0 .0)
 side-is c = sym (c .before .before .side-in .ensures) ∙ c .side .given .1
 
-code-is : (c : tie.Else2) → isCode (piece (c .before .before .before .before .before .before .before .before .before .before .before .before .before .before .before .before) 2) ≡ true
-code-is c = sym (c .before .is-code .ensures) ∙ not-false (c .before .is-code .result) (c .if2 .left)
+code-is : (c : tie.Else2) → (isCode (piece (c .before .before .before .before .before .before .before .before .before .before .before .before .before .before .before .before) 2) ≡ true) × (c .before .code-in .result ≡ codeNumber (piece (c .before .before .before .before .before .before .before .before .before .before .before .before .before .before .before .before) 2))
+code-is c = code-told (piece (c .before .before .before .before .before .before .before .before .before .before .before .before .before .before .before .before) 2) (c .before .code-in .result) (c .before .code-in .ensures) (c .if2 .left)
 
 nominal-is : (c : tie.After-nominal) → value (rangedIn 1 100_000_000 (piece (c .before .before .before .before .before .before .before .before .before .before .before .before .before .before .before .before .before .before .before .before .before) 3)) ≡ values.Is (c .nominal .given .0 .0)
 nominal-is c = sym (c .before .before .ranged-in .ensures) ∙ c .nominal .given .1
@@ -67,23 +68,23 @@ amount-is : (c : tie.After-amount) → value (rangedIn 1 30_000_000_000 (piece (
 amount-is c = sym (c .before .before .ranged-in2 .ensures) ∙ c .amount .given .1
 
 -- Where its first fields are read, what ends the row decides
-first-fields : (code-place : Place) (t0 t1 t2 t3 t4 t5 t6 t7 : Text) (behind : Place) (trade side nominal amount : ℕ)
+first-fields : (code-place : Place) (t0 t1 t2 t3 t4 t5 t6 t7 : Text) (behind : Place) (trade side key nominal amount : ℕ)
     → value (Option·map tradeNumber (tradeIn t0)) ≡ values.Is trade → value (Option·map sideNumber (sideIn t1)) ≡ values.Is side
-    → isCode t2 ≡ true → value (rangedIn 1 100_000_000 t3) ≡ values.Is nominal → value (rangedIn 1 30_000_000_000 t4) ≡ values.Is amount
-    → tradeFrom code-place t0 t1 t2 t3 t4 t5 t6 t7 behind ≡ tradeWith trade side code-place nominal amount behind (termIn trade t5 t6 t7)
-first-fields code-place t0 t1 t2 t3 t4 t5 t6 t7 behind trade side nominal amount e0 e1 e2 e3 e4 = rw (e0, e1, e2, e3, e4)
+    → (isCode t2 ≡ true) × (key ≡ codeNumber t2) → value (rangedIn 1 100_000_000 t3) ≡ values.Is nominal → value (rangedIn 1 30_000_000_000 t4) ≡ values.Is amount
+    → tradeFrom code-place t0 t1 t2 t3 t4 t5 t6 t7 behind ≡ tradeWith trade side code-place key nominal amount behind (termIn trade t5 t6 t7)
+first-fields code-place t0 t1 t2 t3 t4 t5 t6 t7 behind trade side key nominal amount e0 e1 e2 e3 e4 = rw (e0, e1, e2 .0, e2 .1, e3, e4)
 
 -- The row, with what ends it
 abbrev with-term : tie.After-term-in → TermRead → TradeRead
 with-term c =
-    tradeWith (c .before .before .before .before .before .before .before .before .before .before .before .before .before .before .before .before .before .before .before .before .before .before .before .before .before .before .before .before .trade .given .0 .0) (c .before .before .before .before .before .before .before .before .before .before .before .before .before .before .before .before .before .before .before .before .before .before .side .given .0 .0) (getD (c .before .before .before .before .before .before .before .before .before .before .before .before .before .before .before .before .before .before .before .before .before .before .before .before .before .before .before .before .before .before .before .before .before .before .line-at .result .ends) 2 0 + 1) (c .before .before .before .before .before .before .before .before .before .before .before .before .nominal .given .0 .0) (c .before .before .before .before .before .before .amount .given .0 .0) (c .before .before .before .before .before .before .before .before .before .before .before .before .before .before .before .before .before .before .before .before .before .before .before .before .before .before .before .before .before .before .before .before .before .before .line-at .result .next)
+    tradeWith (c .before .before .before .before .before .before .before .before .before .before .before .before .before .before .before .before .before .before .before .before .before .before .before .before .before .before .before .before .trade .given .0 .0) (c .before .before .before .before .before .before .before .before .before .before .before .before .before .before .before .before .before .before .before .before .before .before .side .given .0 .0) (getD (c .before .before .before .before .before .before .before .before .before .before .before .before .before .before .before .before .before .before .before .before .before .before .before .before .before .before .before .before .before .before .before .before .before .before .line-at .result .ends) 2 0 + 1) (c .before .before .before .before .before .before .before .before .before .before .before .before .before .before .before .before .before .before .code-in .result) (c .before .before .before .before .before .before .before .before .before .before .before .before .nominal .given .0 .0) (c .before .before .before .before .before .before .amount .given .0 .0) (c .before .before .before .before .before .before .before .before .before .before .before .before .before .before .before .before .before .before .before .before .before .before .before .before .before .before .before .before .before .before .before .before .before .before .line-at .result .next)
 
 so-far : (c : tie.After-term-in) → tradeRead (c .before .before .before .before .before .before .before .before .before .before .before .before .before .before .before .before .before .before .before .before .before .before .before .before .before .before .before .before .before .before .before .before .before .before .before .before .args .s .now) (c .before .before .before .before .before .before .before .before .before .before .before .before .before .before .before .before .before .before .before .before .before .before .before .before .before .before .before .before .before .before .before .before .before .before .before .before .args .at) ≡ with-term c (c .term-in .result)
 so-far c =
     let e = c .before .before .before .before .before .before .before .before .before .before .before .before .before .before .before .before .before .before .before .before .before .before .before .before .before .before .before .before .before .before .before .before .before in
     let line = c .before .before .before .before .before .before .before .before .before .before .before .before .before .before .before .before .before .before .before .before .before .before .before .before .before .before .before .before .before .before .before .before .before .before .line-at .result in
     by-fields e
-    ∙ first-fields (getD (line .ends) 2 0 + 1) (piece e 0) (piece e 1) (piece e 2) (piece e 3) (piece e 4) (piece e 5) (piece e 6) (piece e 7) (line .next) (c .before .before .before .before .before .before .before .before .before .before .before .before .before .before .before .before .before .before .before .before .before .before .before .before .before .before .before .before .trade .given .0 .0) (c .before .before .before .before .before .before .before .before .before .before .before .before .before .before .before .before .before .before .before .before .before .before .side .given .0 .0) (c .before .before .before .before .before .before .before .before .before .before .before .before .nominal .given .0 .0) (c .before .before .before .before .before .before .amount .given .0 .0)
+    ∙ first-fields (getD (line .ends) 2 0 + 1) (piece e 0) (piece e 1) (piece e 2) (piece e 3) (piece e 4) (piece e 5) (piece e 6) (piece e 7) (line .next) (c .before .before .before .before .before .before .before .before .before .before .before .before .before .before .before .before .before .before .before .before .before .before .before .before .before .before .before .before .trade .given .0 .0) (c .before .before .before .before .before .before .before .before .before .before .before .before .before .before .before .before .before .before .before .before .before .before .side .given .0 .0) (c .before .before .before .before .before .before .before .before .before .before .before .before .before .before .before .before .before .before .code-in .result) (c .before .before .before .before .before .before .before .before .before .before .before .before .nominal .given .0 .0) (c .before .before .before .before .before .before .amount .given .0 .0)
     (trade-is (c .before .before .before .before .before .before .before .before .before .before .before .before .before .before .before .before .before .before .before .before .before .before .before .before .before .before .before .before)) (side-is (c .before .before .before .before .before .before .before .before .before .before .before .before .before .before .before .before .before .before .before .before .before .before)) (code-is (c .before .before .before .before .before .before .before .before .before .before .before .before .before .before .before .before .before)) (nominal-is (c .before .before .before .before .before .before .before .before .before .before .before .before)) (amount-is (c .before .before .before .before .before .before))
     ∙ ap (with-term c) (sym (c .term-in .ensures))
 
@@ -151,15 +152,15 @@ element-copy-out-code c = search needs
 add-code : tie.Need-add-code
 add-code c = fits (c .before .before .before .before .before .before .before .before .before .before .before .before .before) 2 (omega arith)
 
-element-copy-out-is-code : tie.Need-element-copy-out-is-code
-element-copy-out-is-code c = search needs
+element-copy-out-code-in : tie.Need-element-copy-out-code-in
+element-copy-out-code-in c = search needs
 
-is-code-requires : tie.Need-is-code-requires
-is-code-requires c κs = its-line (c .before .before .before .before .before .before .before .before .before .before .before .before .before .before) .asked 2 (omega arith)
+code-in-requires : tie.Need-code-in-requires
+code-in-requires c κs = its-line (c .before .before .before .before .before .before .before .before .before .before .before .before .before .before) .asked 2 (omega arith)
 
 returns-4 : tie.Need-returns-4
 returns-4 c =
-    sym (by-fields (c .before .before .before .before .before .before .before .before .before .before .before .before .before .before .before .before) ∙ rw (trade-is (c .before .before .before .before .before .before .before .before .before .before .before), side-is (c .before .before .before .before .before), sym (c .before .is-code .ensures) ∙ not-true (c .before .is-code .result) (c .if2 .taken)))
+    sym (by-fields (c .before .before .before .before .before .before .before .before .before .before .before .before .before .before .before .before) ∙ rw (trade-is (c .before .before .before .before .before .before .before .before .before .before .before), side-is (c .before .before .before .before .before), code-missed (piece (c .before .before .before .before .before .before .before .before .before .before .before .before .before .before .before .before) 2) (c .before .code-in .result) (c .before .code-in .ensures) (c .if2 .taken)))
 
 element-copy-out-ranged-in : tie.Need-element-copy-out-ranged-in
 element-copy-out-ranged-in c = search needs
@@ -181,7 +182,7 @@ enum-told-3 c = search needs
 
 returns-5 : tie.Need-returns-5
 returns-5 c =
-    sym (by-fields (c .before .before .before .before .before .before .before .before .before .before .before .before .before .before .before .before .before .before .before .before .before) ∙ rw (trade-is (c .before .before .before .before .before .before .before .before .before .before .before .before .before .before .before .before), side-is (c .before .before .before .before .before .before .before .before .before .before), code-is (c .before .before .before .before .before), sym (c .before .before .ranged-in .ensures) ∙ c .enum-told3 .given .1))
+    sym (by-fields (c .before .before .before .before .before .before .before .before .before .before .before .before .before .before .before .before .before .before .before .before .before) ∙ rw (trade-is (c .before .before .before .before .before .before .before .before .before .before .before .before .before .before .before .before), side-is (c .before .before .before .before .before .before .before .before .before .before), code-is (c .before .before .before .before .before) .0, sym (c .before .before .ranged-in .ensures) ∙ c .enum-told3 .given .1))
 
 element-copy-out-ranged-in-3 : tie.Need-element-copy-out-ranged-in-3
 element-copy-out-ranged-in-3 c = search needs
@@ -203,7 +204,7 @@ enum-told-4 c = search needs
 
 returns-6 : tie.Need-returns-6
 returns-6 c =
-    sym (by-fields (c .before .before .before .before .before .before .before .before .before .before .before .before .before .before .before .before .before .before .before .before .before .before .before .before .before .before .before) ∙ rw (trade-is (c .before .before .before .before .before .before .before .before .before .before .before .before .before .before .before .before .before .before .before .before .before .before), side-is (c .before .before .before .before .before .before .before .before .before .before .before .before .before .before .before .before), code-is (c .before .before .before .before .before .before .before .before .before .before .before), nominal-is (c .before .before .before .before .before .before), sym (c .before .before .ranged-in2 .ensures) ∙ c .enum-told4 .given .1))
+    sym (by-fields (c .before .before .before .before .before .before .before .before .before .before .before .before .before .before .before .before .before .before .before .before .before .before .before .before .before .before .before) ∙ rw (trade-is (c .before .before .before .before .before .before .before .before .before .before .before .before .before .before .before .before .before .before .before .before .before .before), side-is (c .before .before .before .before .before .before .before .before .before .before .before .before .before .before .before .before), code-is (c .before .before .before .before .before .before .before .before .before .before .before) .0, nominal-is (c .before .before .before .before .before .before), sym (c .before .before .ranged-in2 .ensures) ∙ c .enum-told4 .given .1))
 
 element-copy-out-term-in : tie.Need-element-copy-out-term-in
 element-copy-out-term-in c = search needs
@@ -273,8 +274,8 @@ trade-row-spec =
     returns-3
     element-copy-out-code
     add-code
-    element-copy-out-is-code
-    is-code-requires
+    element-copy-out-code-in
+    code-in-requires
     returns-4
     element-copy-out-ranged-in
     add-ranged-in

@@ -106,29 +106,22 @@ returns c = λ codes keyed.
 returns-2 : tie.Need-returns-2
 returns-2 c = λ codes keyed. too-many (c .before .before .before .before .before .before) codes keyed _ _ _ (row-read (c .before)) (c .if1 .taken)
 
--- The row has a code at its place
-code-read : (c : tie.Else1) → isCode (textAt 12 (c .before .before .before .before .before .before .args .s .now) (c .before .before .read .given .0 .0 .code)) ≡ true
-code-read c =
-    let b = c .before .before .before .before .before .before in
-    read-row (b .args .s .now) (b .args .at) _ _ (omega arith) (row-read (c .before)) .0
-
-code-number-requires : tie.Need-code-number-requires
-code-number-requires c κs = code-read c
-
 find-requires : tie.Need-find-requires
-find-requires c κs = (c .before .before .before .before .before .before .before .pre .3, c .before .before .before .before .before .before .before .pre .4)
+find-requires c κs = (c .before .before .before .before .before .before .pre .3, c .before .before .before .before .before .before .pre .4)
 
 -- What was found is the place of the code
-found-place : (c : tie.After-find) (codes : List Place) → let b = c .before .before .before .before .before .before .before .before in
-    KeysOf b codes → c .find .result ≡ placeIn (b .args .s .now) codes (c .before .before .before .before .read .given .0 .0 .code)
+found-place : (c : tie.After-find) (codes : List Place) → let b = c .before .before .before .before .before .before .before in
+    KeysOf b codes → c .find .result ≡ placeIn (b .args .s .now) codes (c .before .before .before .read .given .0 .0 .code)
 found-place c codes keyed =
-    let d = c .before .before in
-    key-place (d .before .before .before .before .before .before) codes keyed _ _ _ (row-read (d .before)) _ _ (code-read d) (c .before .code-number .ensures) (c .find .ensures)
+    let d = c .before in
+    let b = d .before .before .before .before .before .before in
+    let row = read-row (b .args .s .now) (b .args .at) _ _ (omega arith) (row-read (d .before)) in
+    key-place b codes keyed _ _ _ (row-read (d .before)) _ _ (row .0) (row .1) (c .find .ensures)
 
 returns-3 : tie.Need-returns-3
 returns-3 c = λ codes keyed.
     let f = c .before in
-    let d = f .before .before in
+    let d = f .before in
     not-there (d .before .before .before .before .before .before) codes keyed _ _ _ (row-read (d .before)) (d .if1 .left)
     (f .find .result) (found-place f codes keyed) (c .if2 .taken)
 
@@ -156,14 +149,14 @@ in-period-requires c κs = search needs
 -- The end of the row, by what the code found out
 ending : (c : tie.After-accrual-day) (holds : Bool)
     → let f = c .before .before .before in
-    let b = f .before .before .before .before .before .before .before .before in
+    let b = f .before .before .before .before .before .before .before in
     (not (c .before .is-margined .result) || periodHolds (c .accrual-day .result) (getD (b .args .previous .now) (f .find .result) 0) (getD (b .args .next .now) (f .find .result) 0)) ≡ holds
     → (codes : List Place) → KeysOf b codes
-    → ended (f .before .before .before .before .read .given .0 .0) (f .before .before .before .before .read .given .0 .1 .0) (f .find .result) (c .before .is-margined .result) (c .accrual-day .result) holds
+    → ended (f .before .before .before .read .given .0 .0) (f .before .before .before .read .given .0 .1 .0) (f .find .result) (c .before .is-margined .result) (c .accrual-day .result) holds
     ≡ answer b codes (tradeRead (b .args .s .now) (b .args .at))
 ending c holds h codes keyed =
     let f = c .before .before .before in
-    let d = f .before .before in
+    let d = f .before in
     last-asked (d .before .before .before .before .before .before) codes keyed _ _ _ (row-read (d .before)) (d .if1 .left)
     (f .find .result) (found-place f codes keyed) (c .before .before .if2 .left)
     (c .before .is-margined .result) (c .before .is-margined .ensures)
@@ -194,7 +187,6 @@ trade-at-spec =
     trade-number-requires
     returns
     returns-2
-    code-number-requires
     find-requires
     returns-3
     is-margined-requires

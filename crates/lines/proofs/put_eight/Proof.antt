@@ -1,0 +1,28 @@
+-- `lines::put_eight` meets its contract: four digits, and four behind them.
+use Prim.Native.Nat.{_/_, _%_}
+use borrow.Author.Needs.{needs}
+use Rattle.lines.specs.Written.{four}
+use Rattle.lines.proofs.Written.{joined}
+use Rattle.lines.proofs.put_eight.Statement.{statement}
+use Rattle.lines.proofs.put_eight.Tie as tie
+
+put-four-requires : tie.Need-put-four-requires
+put-four-requires c κs = search needs
+
+put-four-requires-2 : tie.Need-put-four-requires-2
+put-four-requires-2 c κs = search needs
+
+same-length : tie.Need-same-length
+same-length c = search needs
+
+returns : tie.Need-returns
+returns c =
+    let last = c .before .before in
+    let myriads = last .before .before .before .before in
+    let s = myriads .before .before .before in
+    joined (four (s .args .n / 10_000)) (four (s .args .n % 10_000)) (s .args .at) (s .args .report .now) (s .pre .1)
+    (myriads .put-four .ensures)
+    (last .put-four2 .ensures)
+
+pub put-eight-spec : {M : Type 1} → statement M
+put-eight-spec = tie.close (tie.spec put-four-requires put-four-requires-2 same-length returns)
