@@ -1,10 +1,10 @@
 -- Laws of keys that rise up to the highest: where one is looked for, those below it and those above it are passed.
-use Prim.Native.Nat.{ℕ, zero, suc, _+_, _≤_, _<_}
+use Prim.Native.Nat.{ℕ, zero, suc, _+_, _-_, _*_, _≤_, _<_}
 use native.Mathlib.Nat.{zero-add, add-zero, not-suc-le-zero, le-of-suc-le-suc, eq-or-lt-of-le}
 use native.Mathlib.Decide.{decLt}
 use native.Mathlib.Omega.{arith}
 use mathlib.Core.List.{List, [], _∷_}
-use mathlib.Core.Logic.{⊎-elim}
+use mathlib.Core.Logic.{_⊎_, inl, inr, ⊎-elim}
 use mathlib.Core.Path.{_≡_, sym, ap, _∙_}
 use borrow.Author.Tests.{eq-eqb, ne-eqb}
 use lib.ListN.{length, getD, take, drop}
@@ -52,6 +52,27 @@ module _ (keys : List ℕ) (count key : ℕ) (long : length keys ≡ 256) (few :
 
   pub above : (m : ℕ) → key ≤ getD keys m 0 → Above keys key (suc m)
   above m e k h l = ⊎-elim (λ i. rw (← i) e) (λ i. omega (arith, climbs m k i l)) (eq-or-lt-of-le (le-of-suc-le-suc h))
+
+  -- A key at a place told whether a step is made: where it is below the one looked for
+  abbrev pub Told : ℕ → ℕ → ℕ → Type 0
+  Told m part step = ((getD keys m 0 < key) × (step ≡ part)) ⊎ ((key ≤ getD keys m 0) × (step ≡ 0))
+
+  -- What three keys decide, at the ends of three of four parts: as many parts are below as are told
+  pub quarters : (low part first second third : ℕ) → 1 ≤ part → low + 4 * part ≤ 256 → Below keys key low → Above keys key (low + 4 * part)
+      → Told (low + part - 1) part first → Told (low + 2 * part - 1) part second → Told (low + 3 * part - 1) part third
+      → Below keys key (low + (first + second + third)) × Above keys key (low + (first + second + third) + part)
+  quarters low part first second third some room b a (inr (p, e)) (inr (q, f)) (inr (r, g)) =
+      (λ k h. b k (omega (arith, e, f, g)), λ k h l. above (low + part - 1) p k (omega (arith, e, f, g)) l)
+  quarters low part first second third some room b a (inl (p, e)) (inr (q, f)) (inr (r, g)) =
+      (λ k h. below (low + part - 1) (omega arith) p k (omega (arith, e, f, g)), λ k h l. above (low + 2 * part - 1) q k (omega (arith, e, f, g)) l)
+  quarters low part first second third some room b a (inl (p, e)) (inl (q, f)) (inr (r, g)) =
+      (λ k h. below (low + 2 * part - 1) (omega arith) q k (omega (arith, e, f, g)), λ k h l. above (low + 3 * part - 1) r k (omega (arith, e, f, g)) l)
+  quarters low part first second third some room b a (inl (p, e)) (inl (q, f)) (inl (r, g)) =
+      (λ k h. below (low + 3 * part - 1) (omega arith) r k (omega (arith, e, f, g)), λ k h l. a k (omega (arith, e, f, g)) l)
+  quarters low part first second third some room b a (inr (p, e)) (inl (q, f)) t =
+      absurd (omega (arith, p, q, climbs (low + part - 1) (low + 2 * part - 1) (omega arith) (omega arith)))
+  quarters low part first second third some room b a s (inr (q, f)) (inl (r, g)) =
+      absurd (omega (arith, q, r, climbs (low + 2 * part - 1) (low + 3 * part - 1) (omega arith) (omega arith)))
 
   -- The keys that are looked through
   abbrev used : List ℕ

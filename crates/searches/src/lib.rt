@@ -153,8 +153,9 @@ pub fn keys_of(
     keys
 }
 
-// The place of a key among rising ones, by bisection; as many as there are where it is not there. Eight steps, whatever the
-// count: the compiler makes them one after the other, and without a branch that could be guessed wrong.
+// The place of a key among rising ones, by quarters; as many as there are where it is not there. Four turns, whatever the
+// count: the compiler makes them one after the other, without a branch that could be guessed wrong, and the three keys of a
+// turn are looked at side by side.
 pub fn find(
     keys: &[Key; 256],
     count: usize, // keys
@@ -165,12 +166,22 @@ pub fn find(
 {
     let keys: &[Key] = keys; // as a slice: a proof is told its length
     let mut low: usize = 0; // the keys before it are below the key
-    let mut size: usize = 256; // of the keys from there on, the first that is not below it
+    let mut size: usize = 256; // keys from there on, among which the first that is not below it stands
     while 1 < size {
-        let half = size / 2;
-        let step = if keys[low + half - 1] < key { half } else { 0 };
-        low += step;
-        size -= half;
+        let part = size / 4; // keys
+        let first = if keys[low + part - 1] < key { part } else { 0 }; // keys
+        let second = if keys[low + 2 * part - 1] < key {
+            part
+        } else {
+            0
+        }; // keys
+        let third = if keys[low + 3 * part - 1] < key {
+            part
+        } else {
+            0
+        }; // keys
+        low += first + second + third;
+        size = part;
     }
     if keys[low] == key { low } else { count }
 }
