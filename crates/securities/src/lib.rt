@@ -104,9 +104,9 @@ fn security_at(
     if 200 <= count {
         return SecurityFound::Refused(8);
     }
-    let standing = searches::ranked(s, money, currencies, row.currency);
-    if !standing.there {
-        if 8 <= currencies {
+    if 8 <= currencies { // there is no room for a new one
+        let standing = searches::ranked(s, money, currencies, row.currency);
+        if !standing.there {
             return SecurityFound::Refused(8);
         }
     }
@@ -131,6 +131,9 @@ fn with_money(s: &[u8], currencies: Currencies, at: Place) -> Currencies
     requires { ⌜ (rankedOf (now s) (take (currencies .count) (currencies .places)) at .there || ltb (currencies .count) 8) ≡ true ⌝ }
     ensures { λ r. ⌜ r ≡ withMoney (now (s .entry)) currencies at ⌝ }
 {
+    if 8 <= currencies.count {
+        return currencies; // it is there, since there is no room for a new one
+    }
     let places = currencies.places;
     let standing = searches::ranked(s, &places, currencies.count, at);
     if standing.there {

@@ -1,7 +1,7 @@
 -- `securities::security_at` meets its contract: a line that reads as a row is judged by 8, 9 and 11 in turn.
 use Prim.Native.Nat.{ℕ, _+_, _≤_, _<_}
 use native.Mathlib.Omega.{arith}
-use mathlib.Core.Bool.{Bool, true, false, _&&_, _||_}
+use mathlib.Core.Bool.{Bool, true, false, _&&_, _||_, or-true}
 use mathlib.Core.List.{List}
 use mathlib.Core.Logic.{⊎-elim}
 use mathlib.Core.Option.{Option, none, some}
@@ -113,24 +113,24 @@ room-left k few =
 
 -- Whether the currency is there, as the code knows it
 there-is : (c : tie.After-ranked) (t : Bool) → c .ranked .result .there ≡ t
-    → let k = c .before .before in rankedOf (start k .args .s .now) (money (start k)) (row k .currency) .there ≡ t
+    → let k = c .before .before .before in rankedOf (start k .args .s .now) (money (start k)) (row k .currency) .there ≡ t
 there-is c t e = sym (ap (λ (s : Standing). s .there) (c .ranked .ensures)) ∙ e
 
 -- The 8 passed
-passed-8 : (c : tie.Joined2) → let k = c .before .before .before .before in eight (start k) (row k) (next k) ≡ true
+passed-8 : (c : tie.Joined2) → let k = c .before .before in eight (start k) (row k) (next k) ≡ true
 passed-8 c =
-    let a = c .before .before in
-    let k = a .before .before in
+    let k = c .before .before in
     let b = start k in
-    room-left k (a .before .if1 .left)
+    room-left k (c .before .if1 .left)
     ∙ ⊎-elim
-    (λ w. ap₂ _||_ (there-is a false (not-true (a .ranked .result .there) (w .0 .taken)))
-    (lt-ltb (length (money b)) 8 (omega (arith, money-many b, w .1 .left))))
-    (λ w. ap (λ (t : Bool). t || ltb (length (money b)) 8) (there-is a true (not-false (a .ranked .result .there) (w .left))))
+    (λ w. ap (λ (t : Bool). t || ltb (length (money b)) 8)
+    (sym (ap (λ (s : Standing). s .there) (w .1 .ensures)) ∙ not-false (w .1 .result .there) (w .3 .left)))
+    (λ w. ap (λ (t : Bool). rankedOf (b .args .s .now) (money b) (row k .currency) .there || t) (lt-ltb (length (money b)) 8 (omega (arith, money-many b, w .left)))
+    ∙ or-true (rankedOf (b .args .s .now) (money b) (row k .currency) .there))
     (c .if2 .came)
 
 -- The 9 passed
-passed-9 : (c : tie.Else4) → let k = c .before .before .before .before .before .before in nine (start k) (row k) (next k) ≡ true
+passed-9 : (c : tie.Else4) → let k = c .before .before .before .before in nine (start k) (row k) (next k) ≡ true
 passed-9 c = sym (c .before .rises .ensures) ∙ not-false (c .before .rises .result) (c .if4 .left)
 
 -- A value that is there is some
@@ -143,16 +143,16 @@ is-none none e = refl
 is-none (some m) e = let z : _≡_ {A = ℕ} 0 1 = cc in absurd (omega arith)
 
 -- The class that is found
-class-is : (c : tie.After-place) → let k = c .before .before .before .before .before .before .before .before .before in
+class-is : (c : tie.After-place) → let k = c .before .before .before .before .before .before .before in
     eleven (start k) (row k) (next k) ≡ some (c .place .given .0 .0)
 class-is c =
-    let k = c .before .before .before .before .before .before .before .before .before in
+    let k = c .before .before .before .before .before .before .before in
     is-some (eleven (start k) (row k) (next k)) (c .place .given .0 .0) (sym (c .before .before .class-of .ensures) ∙ c .place .given .1)
 
-class-low : (c : tie.After-place) → let b = start (c .before .before .before .before .before .before .before .before .before) in
+class-low : (c : tie.After-place) → let b = start (c .before .before .before .before .before .before .before) in
     c .place .given .0 .0 < b .args .classes
 class-low c =
-    let k = c .before .before .before .before .before .before .before .before .before in
+    let k = c .before .before .before .before .before .before .before in
     let a = start k .args in
     omega (
       arith,
@@ -192,30 +192,31 @@ returns-2 c =
 
 ranked-requires : tie.Need-ranked-requires
 ranked-requires c κs =
-    let b = start (c .before) in
-    (b .pre .0 .5, b .pre .1 .3, currency-inside (c .before))
+    let b = start (c .before .before) in
+    (b .pre .0 .5, b .pre .1 .3, currency-inside (c .before .before))
 
 returns-3 : tie.Need-returns-3
 returns-3 c =
-    let a = c .before .before .before in
-    let k = a .before .before in
+    let a = c .before .before in
+    let e = a .before .before in
+    let k = e .before in
     let b = start k in
     let no-room : eight b (row k) (next k) ≡ false =
-    room-left k (a .before .if1 .left)
-    ∙ ap₂ _||_ (there-is a false (not-true (a .ranked .result .there) (c .before .if2 .taken)))
-    (le-ltb (length (money b)) 8 (omega (arith, money-many b, c .if3 .taken)))
+    room-left k (e .if1 .left)
+    ∙ ap₂ _||_ (there-is a false (not-true (a .ranked .result .there) (c .if3 .taken)))
+    (le-ltb (length (money b)) 8 (omega (arith, money-many b, a .before .if2 .taken)))
     in
     sym (ap (judged b) (read-is k) ∙ by-rules b (row k) (next k) false (nine b (row k) (next k)) (eleven b (row k) (next k)) no-room refl refl)
 
 rises-requires : tie.Need-rises-requires
 rises-requires c κs =
-    let k = c .before .before .before .before in
+    let k = c .before .before in
     (start k .pre .0 .4, start k .pre .1 .2, code-inside k)
 
 returns-4 : tie.Need-returns-4
 returns-4 c =
     let j = c .before .before in
-    let k = j .before .before .before .before in
+    let k = j .before .before in
     let b = start k in
     let falls : nine b (row k) (next k) ≡ false = sym (c .before .rises .ensures) ∙ not-true (c .before .rises .result) (c .if4 .taken) in
     sym (ap (judged b) (read-is k) ∙ by-rules b (row k) (next k) true false (eleven b (row k) (next k)) (passed-8 j) falls refl)
@@ -232,7 +233,7 @@ enum-told-2 c = search needs
 returns-5 : tie.Need-returns-5
 returns-5 c =
     let p = c .before .before .before in
-    let k = p .before .before .before .before .before .before in
+    let k = p .before .before .before .before in
     let b = start k in
     let no-class : eleven b (row k) (next k) ≡ none =
     is-none (eleven b (row k) (next k)) (sym (c .before .before .class-of .ensures) ∙ c .enum-told2 .given .1)
@@ -240,16 +241,16 @@ returns-5 c =
     sym (ap (judged b) (read-is k) ∙ by-rules b (row k) (next k) true true none (passed-8 (p .before .before)) (passed-9 p) no-class)
 
 mul-t25 : tie.Need-mul-t25
-mul-t25 c = omega (arith, class-low (c .before), start (c .before .before .before .before .before .before .before .before .before .before) .pre .0)
+mul-t25 c = omega (arith, class-low (c .before), start (c .before .before .before .before .before .before .before .before) .pre .0)
 
 element-copy-out-t28 : tie.Need-element-copy-out-t28
-element-copy-out-t28 c = omega (arith, class-low (c .before), start (c .before .before .before .before .before .before .before .before .before .before) .pre .0)
+element-copy-out-t28 c = omega (arith, class-low (c .before), start (c .before .before .before .before .before .before .before .before) .pre .0)
 
 returns-6 : tie.Need-returns-6
 returns-6 c =
     let q = c .before .before in
     let p = q .before .before .before in
-    let k = p .before .before .before .before .before .before in
+    let k = p .before .before .before .before in
     let b = start k in
     let class : getD (take (b .args .classes) (b .args .numbers .now)) (q .place .given .0 .0) 0 ≡ getD (b .args .numbers .now) (q .place .given .0 .0) 0 =
     getD-take (b .args .classes) (b .args .numbers .now) (q .place .given .0 .0) 0 (class-low q)
