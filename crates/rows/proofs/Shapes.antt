@@ -1,13 +1,13 @@
 -- Each row by the readings of its fields, in the order in which the code reads them.
-use Prim.Native.Nat.{ℕ, suc, _+_}
+use Prim.Native.Nat.{ℕ, _+_}
 use native.Mathlib.Numerals.{add-one}
 use native.Mathlib.Omega.{arith}
 use mathlib.Core.Bool.{Bool, true, false, cond, _&&_, _||_, and-false}
-use mathlib.Core.List.{List, [], _∷_}
-use mathlib.Core.Option.{Option, none, some, Option·map, Option·getD}
-use mathlib.Core.Path.{_≡_, refl, sym, ap, _∙_}
+use mathlib.Core.List.{[], _∷_}
+use mathlib.Core.Option.{Option, none, some, Option·map}
+use mathlib.Core.Path.{_≡_, refl, _∙_}
 use lib.Dec.{eqb, leb, ltb}
-use lib.ListN.{length, getD, take}
+use lib.ListN.{getD, take}
 use Rattle.paper.specs.Units.{Text, Fields, Date, Rate}
 use Rattle.paper.specs.Lists.{between, when, _>>=_}
 use Rattle.paper.specs.Days.{isDay}
@@ -16,7 +16,7 @@ use Rattle.paper.specs.Rows as paper
 use Rattle.paper.specs.Rows.{Trade, repo, cash, Side, field, kindIn, tradeIn, sideIn, readDate, readClass, readPriority, readSecurity, readTrade}
 use Rattle.paper.specs.Refusals.{isRate, follows, dateRules, classRules, priorityRules, securityRules, tradeRules}
 use Rattle.fields.specs.Places.{Place, lineAt}
-use Rattle.fields.specs.Values.{value, rangedIn, rateIn, durationIn, kindNumber, tradeNumber, sideNumber, codeNumber}
+use Rattle.fields.specs.Values.{value, rangedIn, durationIn, kindNumber, tradeNumber, sideNumber, codeNumber}
 use Rattle.fields.specs.declared.Line.{Line}
 use Rattle.rows.specs.Fields.{fieldsAt}
 use Rattle.rows.specs.Held.{fieldPlace, heldDate, heldClass, heldPriority, heldSecurity, heldTrade}

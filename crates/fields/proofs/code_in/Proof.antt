@@ -9,7 +9,7 @@ use lib.Seq.{slice, length-slice}
 use Rattle.paper.specs.Units.{Text}
 use Rattle.paper.specs.Text.{isCode}
 use Rattle.paper.proofs.Fields.{code-length}
-use Rattle.fields.specs.Values.{codeNumber, codeOr}
+use Rattle.fields.specs.Values.{codeNumber}
 use Rattle.fields.specs.Places.{Place}
 use Rattle.fields.proofs.code_in.Statement.{statement}
 use Rattle.fields.proofs.code_in.Tie as tie

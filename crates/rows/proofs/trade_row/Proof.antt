@@ -6,7 +6,6 @@ use mathlib.Core.Bool.{true}
 use mathlib.Core.Option.{Option·map}
 use mathlib.Core.Path.{_≡_, sym, ap, _∙_}
 use borrow.Author.Needs.{needs}
-use borrow.Author.Tests.{not-true, not-false}
 use lib.IntN.{ℤ}
 use lib.ListN.{getD, take}
 use mir.Syntax.{w64}
