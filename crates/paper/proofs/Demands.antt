@@ -9,7 +9,7 @@ use lib.ListN.{length, take, drop}
 use lib.Seq.{take-append-seam}
 use Rattle.paper.specs.Units.{Text, Room, Currency}
 use Rattle.paper.specs.Rows.{ClassRow, PriorityRow, Tables}
-use Rattle.paper.specs.Lists.{sum, every, only, joinedUp}
+use Rattle.paper.specs.Lists.{sum, every, joinedUp}
 use Rattle.paper.specs.Text.{same}
 use Rattle.paper.specs.Days.{day}
 use Rattle.paper.specs.Currencies.{currencies}
@@ -20,20 +20,28 @@ use Rattle.paper.specs.Sheet.{readSheet}
 use Rattle.paper.specs.Report.{tradeLine, marginOf, classLine, currencyLine, markIn, currencyLines, reportOf}
 use Rattle.paper.specs.Answer.{Answer, roomRules, answer, numberOf, bufferAfter, kit}
 use Rattle.paper.specs.Tables.{sheetOf, hold, holdDown, Admitted}
-use Rattle.paper.specs.Demands.{IsAnswer, Gives, Demand1, Demand2, Demand3, Reordering, RowTakes, names, withPriorities}
+use Rattle.paper.specs.Demands.{IsAnswer, Gives, Reports, Demand1, Demand2, Demand3, Reordering, RowTakes, names, withPriorities}
 use Rattle.paper.proofs.Lists.{tests, passes, holds, together, both, every-cons, each-every}
 use Rattle.paper.proofs.Rules.{each-holds, priorities-at-most}
 use Rattle.paper.proofs.Outcomes.{Sound, judged-holds, judged-accepted, judged-sound, both-accepted, bind-sound, accepted-one}
 use Rattle.paper.proofs.Views.{written-read, read-written}
 use Rattle.paper.proofs.Refusals.{read-sound}
+use Rattle.paper.proofs.Smallest.{smallest-number}
+use Rattle.paper.proofs.Earliest.{earliest-line}
 use Rattle.paper.proofs.Lengths.{report-fits, sheet-fits}
 use Rattle.paper.proofs.Reordering.{Reordered, Apart, same-length, same-every}
 use Rattle.paper.proofs.Offsetting.{taken-there, row-conserves, row-lowers, rows-keep, rows-reordered, same-offsets}
 
--- The kit gives the answer of document 01, whatever the sheet and the buffer
-pub gives-answer : (sheet buffer : Text) (a : Answer) → answer (length buffer) sheet ≡ a → Gives kit sheet buffer a
+-- The kit gives the answer of document 01, whatever the sheet and the buffer: its number, and what the buffer then holds
+pub gives-answer : (sheet buffer : Text) (a : Answer) → answer (length buffer) sheet ≡ a
+    → kit sheet buffer ≡ (numberOf a, bufferAfter a buffer)
 unfolding kit
 gives-answer sheet buffer a e = ap (λ (a : Answer). (numberOf a, bufferAfter a buffer)) e
+
+-- That is a refusal which leaves the buffer as it was, or the report at its start
+gives : (sheet buffer : Text) (a : Answer) → answer (length buffer) sheet ≡ a → Gives kit sheet buffer a
+gives sheet buffer (refused number line) e = gives-answer sheet buffer (refused number line) e
+gives sheet buffer (accepted report) e = gives-answer sheet buffer (accepted report) e
 
 -- ---- what an answer may be
 
@@ -68,8 +76,10 @@ is-answer room sheet = go (tablesOf room sheet) (tables-sound room sheet) (table
 -- leaves every byte of the lent report as it was. Callers check nothing first.
 pub demand-1 : Demand1 kit
 demand-1 = (
-  λ sheet buffer s b. (answer (length buffer) sheet, is-answer (length buffer) sheet, gives-answer sheet buffer _ refl),
-  λ sheet buffer s b number line e. gives-answer sheet buffer (refused number line) e,
+  λ sheet buffer s b. (answer (length buffer) sheet, is-answer (length buffer) sheet, gives sheet buffer _ refl),
+  λ sheet buffer s b number line e. gives sheet buffer (refused number line) e,
+  smallest-number,
+  earliest-line,
 )
 
 -- ---- accepted exactly when admitted
@@ -100,11 +110,11 @@ pub demand-2 : Demand2 kit
 demand-2 sheet buffer s b room report fits = (
   λ given. go (answer (length buffer) sheet) refl (is-answer (length buffer) sheet) given,
   λ (t, admitted, written, figures).
-      gives-answer sheet buffer (accepted report)
+      gives sheet buffer (accepted report)
       (ap (answer (length buffer)) written ∙ answer-admitted (length buffer) t room admitted ∙ ap accepted (sym figures)),
 )
   where
-    go : (a : Answer) → answer (length buffer) sheet ≡ a → IsAnswer a → Gives kit sheet buffer (accepted report)
+    go : (a : Answer) → answer (length buffer) sheet ≡ a → IsAnswer a → Reports kit sheet buffer report
         → (t : Tables) × Admitted t × (sheet ≡ sheetOf t) × (report ≡ reportOf t)
     go (refused number line) e (low, high, below) given =
         let same : numberOf (refused number line) ≡ length report =
@@ -184,15 +194,17 @@ pub demand-3 : Demand3 kit
 demand-3 = (reordering, row-takes, rows-keep)
   where
     reordering : Reordering kit
-    reordering t admitted os same buffer bytes room report given =
-        let r = rows-reordered (t .priorities) os same in
-        let before = gives-answer (sheetOf t) buffer _ (answer-admitted (length buffer) t room admitted) in
-        let after =
-        gives-answer (sheetOf (withPriorities t os)) buffer _
-        (answer-admitted (length buffer) (withPriorities t os) room (reordered-admitted t os r admitted)
-        ∙ ap accepted (reordered-report t os r))
-        in
-        after ∙ sym before ∙ given
+    reordering sheet buffer s b room report fits given =
+        let (t, admitted, written, figures) = demand-2 sheet buffer s b room report fits .0 given in (
+          t,
+          admitted,
+          written,
+          λ os same.
+              let r = rows-reordered (t .priorities) os same in
+              gives (sheetOf (withPriorities t os)) buffer (accepted report)
+              (answer-admitted (length buffer) (withPriorities t os) room (reordered-admitted t os r admitted)
+              ∙ ap accepted (reordered-report t os r ∙ sym figures)),
+        )
 
     row-takes : RowTakes
     row-takes o h b =

@@ -13,6 +13,10 @@ pub mod Sections
 pub mod Rows
 pub mod Views
 pub mod Refusals
+pub mod Smallest
+pub mod Turns
+pub mod Cuts
+pub mod Earliest
 pub mod Reordering
 pub mod Offsetting
 pub mod Bounds

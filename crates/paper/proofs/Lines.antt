@@ -145,3 +145,28 @@ lines-fewer t = rw (parted-pieces LF t) at (go (pieces LF t))
     go ([] ∷ []) = omega arith
     go ((b ∷ bs) ∷ []) = omega arith
     go (p ∷ q ∷ ps) = omega (arith, go (q ∷ ps), length-append p (LF ∷ parted LF (q ∷ ps)))
+
+-- A text that begins with LF has an empty line first
+pub lines-ended : (t : Text) → lines (LF ∷ t) ≡ ([] ∷ []) ∷ lines t
+unfolding lines
+lines-ended t = linesOf-cons [] (pieces LF t) (pieces-filled LF t)
+
+-- Another byte joins the first line; where there is none, or one without LF, that has no LF either
+abbrev pub joinedFirst : Byte → List Fields → List Fields
+joinedFirst b [] = [] ∷ []
+joinedFirst b ([] ∷ fss) = [] ∷ fss
+joinedFirst b ((f ∷ fs) ∷ fss) = pieced (eqb b semicolon) b (f ∷ fs) ∷ fss
+
+pub lines-joined : (b : Byte) (t : Text) → eqb b LF ≡ false → lines (b ∷ t) ≡ joinedFirst b (lines t)
+unfolding lines
+lines-joined b t e = rw e (go (pieces LF t) (pieces-filled LF t))
+  where
+    first : (fs : Fields) (fss : List Fields) → filled fs ≡ true → pieced (eqb b semicolon) b fs ∷ fss ≡ joinedFirst b (fs ∷ fss)
+    first [] fss h = never h
+    first (f ∷ fs) fss h = refl
+
+    go : (ps : List Text) → filled ps ≡ true → linesOf (pieced false b ps) ≡ joinedFirst b (linesOf ps)
+    go [] h = never h
+    go ([] ∷ []) h = refl
+    go ((c ∷ p) ∷ []) h = refl
+    go (p ∷ q ∷ ps) h = first (pieces semicolon p) (linesOf (q ∷ ps)) (pieces-filled semicolon p)

@@ -21,6 +21,11 @@ pub not-accepted : {A : Type 0} {X : Type 0} {number : Number} {line : Line} {a 
     → _≡_ {A = Outcome A} (refused number line) (accepted a) → X
 not-accepted e = let z : _≡_ {A = ℕ} 0 1 = cc in absurd (omega arith)
 
+-- A refusal is one number and one line
+pub refused-one : {A : Type 0} {m number : Number} {l line : Line} → _≡_ {A = Outcome A} (refused m l) (refused number line)
+    → (m ≡ number) × (l ≡ line)
+refused-one e = (cc, cc)
+
 -- Where every rule holds, what is judged is accepted
 pub judged-holds : {A : Type 0} (at : Line) (a : A) (rules : List Rule) → T (hold rules) → judged at a rules ≡ accepted a
 judged-holds at a [] h = refl
