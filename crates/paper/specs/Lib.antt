@@ -16,3 +16,4 @@ pub mod Tables
 pub mod Demands
 pub mod Figures
 pub mod Example
+pub mod Limits

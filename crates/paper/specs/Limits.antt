@@ -1,0 +1,166 @@
+-- The borders of document 01 in one table that the checker computes: what is just taken, what is just refused and by which
+-- number. A border moved in the paper and in the code alike is seen here.
+use Prim.Native.Nat.{ℕ, _+_, _-_}
+use Prim.Native.String.{String}
+use mathlib.Core.Bool.{true, false}
+use mathlib.Core.List.{List, [], _∷_, map}
+use mathlib.Core.Option.{none, some}
+use mathlib.Core.Path.{_≡_, refl}
+use lib.Dec.{eqb}
+use lib.IntN.{pos, negℤ}
+use lib.ListN.{getD, set, take, replicate}
+use Rattle.paper.specs.Units.{Text, Number, Line, Class, Duration, SignedCents}
+use Rattle.paper.specs.Lists.{joinedUp, given}
+use Rattle.paper.specs.Rounding.{nearest, rounded}
+use Rattle.paper.specs.Days.{day, isDay, isOpen, workingAfter}
+use Rattle.paper.specs.Text.{ascii, lines, lineOf, isDigit, isLetter, numberIn, dateIn, isCode, digits}
+use Rattle.paper.specs.Rows.{Kind, government, corporate, inflation, floating, cash, seller, ClassRow, PriorityRow, SecurityRow, TradeRow}
+use Rattle.paper.specs.Valuation.{valuedFrom, valuedIn}
+use Rattle.paper.specs.Refusals.{Outcome, refused, accepted, Rule, judged, isDuration, classRules, priorityRules, securityRules, tradeRules}
+use Rattle.paper.specs.Sheet.{rowsFrom, readSheet}
+use Rattle.paper.specs.Offsetting.{summed, offsetRow, offsetAll, margin, total}
+use Rattle.paper.specs.Report.{classLine, currencyLines, reportOf}
+use Rattle.paper.specs.Answer.{answer, numberOf, bufferAfter}
+use Rattle.paper.specs.Example.{sheet}
+
+-- Document 01's sheet with another text in a field of a line; field 0 is the letter
+abbrev changed : Line → ℕ → String → Text
+changed at place text =
+    let rows = lines sheet in
+    joinedUp (map lineOf (set rows (at - 1) (set (getD rows (at - 1) []) place (ascii text))))
+
+-- No refusal
+abbrev ok : Number
+ok = 0
+
+-- The number of a refusal, where it falls on a line
+abbrev refusalOn : {A : Type 0} → Line → Outcome A → Number
+refusalOn seen (accepted a) = ok
+refusalOn seen (refused number line) = elim (eqb line seen) [ true ↦ number | false ↦ ok ]
+
+-- What one line gets, for some texts in a field of another
+abbrev seenOn : Line → Line → ℕ → List String → List Number
+seenOn seen at place texts = map (λ text. refusalOn seen (readSheet (changed at place text))) texts
+
+-- What a line gets, for some texts in a field of its own
+abbrev line : Line → ℕ → List String → List Number
+line at place texts = seenOn at at place texts
+
+-- The mark-to-market of each margined trade, in cents
+abbrev marks : Line → ℕ → String → List SignedCents
+marks at place text =
+    elim (readSheet (changed at place text)) [ refused number line ↦ [] | accepted t ↦ map (λ v. v .mark) (valuedIn t) ]
+
+-- What the rules of a row give
+abbrev first : List Rule → Number
+first rules = refusalOn 0 (judged 0 rules rules)
+
+-- A C row, by class, kind and border in ten-thousandths of a year
+abbrev class : Class → Kind → Duration → ClassRow
+class n kind border = record { class = n; kind = kind; border = some border; deposit = 0 }
+
+-- Two C rows, the lower one first
+abbrev classes : List ClassRow
+classes = class 2 corporate 5 ∷ class 1 government 5 ∷ []
+
+-- An O row
+abbrev priority : PriorityRow
+priority = record { first = 1; second = 2; factor = 10_000 }
+
+-- An S row, by code and currency
+abbrev bond : String → String → SecurityRow
+bond code currency =
+    record { code = ascii code; currency = ascii currency; kind = government; duration = some 5; price = 1; coupon = 0; payments = 1; previous = 20_190_101; next = 20_200_101 }
+
+-- A T row
+abbrev sale : TradeRow
+sale =
+    record { trade = cash; side = seller; code = ascii "ZZ0000000016"; nominal = 1; amount = 1; first = 20_190_614; last = none; rate = none }
+
+-- The table: a line, a field, texts for it and what each gives
+abbrev pub Limits : Type 0
+Limits =
+    -- D: calculation date, a day of 2000 on, no later than 23991220
+    (line 2 1 ("19991231" ∷ "20000101" ∷ "23991220" ∷ "23991221" ∷ "" ∷ []) ≡ 7 ∷ ok ∷ ok ∷ 7 ∷ 7 ∷ [])
+    -- C: class 1..40, rising; kind; border 1..1,000,000, rising for each kind; deposit factor 0..10,000
+    × (line 3 1 ("" ∷ "0" ∷ "1" ∷ []) ≡ 6 ∷ 6 ∷ ok ∷ []) × (line 4 1 ("6" ∷ "40" ∷ "41" ∷ []) ≡ 9 ∷ ok ∷ 6 ∷ [])
+    × (line 3 2 ("G" ∷ "C" ∷ "I" ∷ "F" ∷ "" ∷ []) ≡ ok ∷ ok ∷ 6 ∷ 6 ∷ 6 ∷ [])
+    × (line 3 3 ("" ∷ "0" ∷ "1" ∷ "1000000" ∷ "1000001" ∷ []) ≡ 6 ∷ 6 ∷ ok ∷ ok ∷ 6 ∷ [])
+    × (line 4 3 ("32500" ∷ "32501" ∷ []) ≡ 9 ∷ ok ∷ [])
+    × (map (λ c. first (classRules classes c)) (class 3 government 5 ∷ class 3 government 6 ∷ class 2 government 6 ∷ []) ≡ 9 ∷ ok ∷ 9 ∷ [])
+    × (line 3 4 ("" ∷ "0" ∷ "10000" ∷ "10001" ∷ []) ≡ 6 ∷ ok ∷ ok ∷ 6 ∷ [])
+    -- O: class; class, both on the sheet; factor 0..10,000
+    × (line 6 1 ("0" ∷ "5" ∷ "6" ∷ "7" ∷ "8" ∷ "41" ∷ []) ≡ 6 ∷ 10 ∷ ok ∷ ok ∷ 10 ∷ 6 ∷ [])
+    × (line 6 2 ("0" ∷ "5" ∷ "6" ∷ "7" ∷ "8" ∷ "41" ∷ []) ≡ 6 ∷ 10 ∷ ok ∷ ok ∷ 10 ∷ 6 ∷ [])
+    × (line 6 3 ("" ∷ "0" ∷ "10000" ∷ "10001" ∷ []) ≡ 6 ∷ ok ∷ ok ∷ 6 ∷ [])
+    -- S: code, rising; currency; kind; duration 1..1,000,000, and the class for it; price 1..20,000,000; coupon 0..2,000,000;
+    -- payments a year 1, 2 or 4; next coupon date 1 to 400 days after 20190101
+    × (line 8 1 ("FR0011337880" ∷ "FR0011337881" ∷ "ZZZZZZZZZZZ9" ∷ []) ≡ 9 ∷ ok ∷ ok ∷ [])
+    × (line 8 1 ("Z00000000016" ∷ "ZZ000000001Z" ∷ "ZZ000000001" ∷ "" ∷ []) ≡ 6 ∷ 6 ∷ 6 ∷ 6 ∷ [])
+    × (line 8 2 ("EU" ∷ "EU1" ∷ "USD" ∷ "EURO" ∷ []) ≡ 6 ∷ 6 ∷ ok ∷ 6 ∷ [])
+    × (line 8 3 ("G" ∷ "C" ∷ "I" ∷ "F" ∷ "" ∷ []) ≡ ok ∷ 11 ∷ 6 ∷ 6 ∷ 6 ∷ [])
+    × (line 8 4 ("" ∷ "0" ∷ "1" ∷ "47500" ∷ "47501" ∷ "1000000" ∷ "1000001" ∷ []) ≡ 6 ∷ 6 ∷ ok ∷ ok ∷ 11 ∷ 11 ∷ 6 ∷ [])
+    × (line 8 5 ("" ∷ "0" ∷ "1" ∷ "20000000" ∷ "20000001" ∷ []) ≡ 6 ∷ 6 ∷ ok ∷ ok ∷ 6 ∷ [])
+    × (line 8 6 ("" ∷ "0" ∷ "2000000" ∷ "2000001" ∷ []) ≡ 6 ∷ ok ∷ ok ∷ 6 ∷ [])
+    × (line 8 7 ("0" ∷ "1" ∷ "2" ∷ "3" ∷ "4" ∷ "5" ∷ []) ≡ 6 ∷ ok ∷ ok ∷ 6 ∷ ok ∷ 6 ∷ [])
+    × (line 8 9 ("20190101" ∷ "20190102" ∷ "20200205" ∷ "20200206" ∷ "" ∷ []) ≡ 7 ∷ ok ∷ ok ∷ 7 ∷ 7 ∷ [])
+    -- Border and duration are blank exactly for kinds I and F
+    × (map (λ kind. isDuration kind none) (government ∷ corporate ∷ inflation ∷ floating ∷ []) ≡ false ∷ false ∷ true ∷ true ∷ [])
+    × (map (λ kind. isDuration kind (some 1)) (government ∷ corporate ∷ inflation ∷ floating ∷ []) ≡ true ∷ true ∷ false ∷ false ∷ [])
+    -- T: R or C; S or P; a code of the sheet; nominal 1..100,000,000; amount 1..30,000,000,000; a repo's last date 1 to 730
+    -- days after 20190603; rate -200,000..200,000; both blank for cash
+    × (line 9 1 ("R" ∷ "C" ∷ "" ∷ []) ≡ ok ∷ 6 ∷ 6 ∷ []) × (line 9 2 ("S" ∷ "P" ∷ "" ∷ []) ≡ ok ∷ ok ∷ 6 ∷ [])
+    × (line 9 3 ("ZZ0000000016" ∷ "ZZ0000000017" ∷ "" ∷ []) ≡ ok ∷ 10 ∷ 6 ∷ [])
+    × (line 9 4 ("" ∷ "0" ∷ "1" ∷ "100000000" ∷ "100000001" ∷ []) ≡ 6 ∷ 6 ∷ ok ∷ ok ∷ 6 ∷ [])
+    × (line 9 5 ("" ∷ "0" ∷ "1" ∷ "30000000000" ∷ "30000000001" ∷ []) ≡ 6 ∷ 6 ∷ ok ∷ ok ∷ 6 ∷ [])
+    × (line 9 7 ("20190603" ∷ "20190604" ∷ "20210602" ∷ "20210603" ∷ "" ∷ []) ≡ 7 ∷ ok ∷ ok ∷ 7 ∷ 7 ∷ [])
+    × (line 9 8 ("-200001" ∷ "-200000" ∷ "-0" ∷ "0" ∷ "200000" ∷ "200001" ∷ "" ∷ []) ≡ 6 ∷ ok ∷ 6 ∷ ok ∷ ok ∷ 6 ∷ 6 ∷ [])
+    × (line 10 6 ("" ∷ []) ≡ 7 ∷ []) × (line 10 7 ("20190701" ∷ []) ≡ 6 ∷ []) × (line 10 8 ("0" ∷ []) ≡ 6 ∷ [])
+    -- An unknown letter; a field too many
+    × (map (λ at. line at 0 ("X" ∷ [])) (2 ∷ 3 ∷ 5 ∷ 7 ∷ 9 ∷ []) ≡ replicate 5 (5 ∷ []))
+    × (map (λ at. line at 1 ("6;6" ∷ [])) (2 ∷ 3 ∷ 5 ∷ 7 ∷ 9 ∷ []) ≡ replicate 5 (5 ∷ []))
+    -- Rows: at most 40 C, 200 O, 200 S, 500 T; at most 8 currencies
+    × (map (λ above. first (classRules (replicate above (class 1 government 5)) (class 40 corporate 5))) (39 ∷ 40 ∷ []) ≡ ok ∷ 8 ∷ [])
+    × (map (λ above. first (priorityRules classes (replicate above priority) priority)) (199 ∷ 200 ∷ []) ≡ ok ∷ 8 ∷ [])
+    × (map (λ above. first (securityRules classes (replicate above (bond "AA0000000016" "EUR")) (bond "ZZ0000000016" "EUR"))) (199 ∷ 200 ∷ []) ≡ ok ∷ 8 ∷ [])
+    × (map (λ above. first (tradeRules (day 20_190_612) (bond "ZZ0000000016" "EUR" ∷ []) (replicate above sale) sale)) (499 ∷ 500 ∷ []) ≡ ok ∷ 8 ∷ [])
+    × (map (λ above. first (securityRules classes (map (bond "AA0000000016") (take {A = String} above ("A" ∷ "B" ∷ "C" ∷ "D" ∷ "E" ∷ "F" ∷ "G" ∷ "H" ∷ []))) (bond "ZZ0000000016" "EUR"))) (7 ∷ 8 ∷ []) ≡ ok ∷ 8 ∷ [])
+    -- Accrual at or after the previous coupon date, before the next: the repo's on 20190613, a day after calculation; cash on 20190614
+    × (seenOn 9 7 8 ("20190613" ∷ "20190614" ∷ []) ≡ ok ∷ 12 ∷ []) × (seenOn 9 7 9 ("20190613" ∷ "20190614" ∷ []) ≡ 12 ∷ ok ∷ [])
+    × (seenOn 10 8 8 ("20190614" ∷ "20190615" ∷ []) ≡ ok ∷ 12 ∷ []) × (seenOn 10 8 9 ("20190614" ∷ "20190615" ∷ []) ≡ 12 ∷ ok ∷ [])
+    -- Digits, letters; a number of 19 digits, and of 20
+    × (map isDigit (ascii "/09:") ≡ false ∷ true ∷ true ∷ false ∷ []) × (map isLetter (ascii "@AZ[") ≡ false ∷ true ∷ true ∷ false ∷ [])
+    × (map (λ text. given (numberIn (ascii text))) ("9999999999999999999" ∷ "10000000000000000000" ∷ []) ≡ true ∷ false ∷ [])
+    -- Days: 2000 to 2399; month and day from 1; the last of each month, and a day more; leap years; days from 20000101
+    × (map isDay (19_991_231 ∷ 20_000_101 ∷ 23_991_231 ∷ 24_000_101 ∷ []) ≡ false ∷ true ∷ true ∷ false ∷ [])
+    × (map isDay (20_190_001 ∷ 20_191_301 ∷ 20_190_100 ∷ []) ≡ false ∷ false ∷ false ∷ [])
+    × (map (λ last. isDay (20_190_000 + last)) (131 ∷ 228 ∷ 331 ∷ 430 ∷ 531 ∷ 630 ∷ 731 ∷ 831 ∷ 930 ∷ 1031 ∷ 1130 ∷ 1231 ∷ []) ≡ replicate 12 true)
+    × (map (λ last. isDay (20_190_001 + last)) (131 ∷ 228 ∷ 331 ∷ 430 ∷ 531 ∷ 630 ∷ 731 ∷ 831 ∷ 930 ∷ 1031 ∷ 1130 ∷ 1231 ∷ []) ≡ replicate 12 false)
+    × (map isDay (20_020_229 ∷ 20_040_229 ∷ 20_080_229 ∷ 22_000_229 ∷ 23_000_229 ∷ []) ≡ false ∷ true ∷ true ∷ false ∷ false ∷ [])
+    × (map day (20_000_101 ∷ 20_000_301 ∷ 20_010_101 ∷ 20_190_301 ∷ 23_991_231 ∷ []) ≡ 0 ∷ 60 ∷ 366 ∷ 6_999 ∷ 146_096 ∷ [])
+    -- First working day after a Thursday, a Friday, a Saturday, a Sunday
+    × (map (λ date. workingAfter (day date)) (20_190_613 ∷ 20_190_614 ∷ 20_190_615 ∷ 20_190_616 ∷ []) ≡ map day (20_190_614 ∷ 20_190_617 ∷ 20_190_617 ∷ 20_190_617 ∷ []))
+    -- Sides, of the repo and of cash; a coupon on cash, to its settlement; payments a year, on the repo
+    × (marks 9 2 "P" ≡ negℤ (pos 1_028_170) ∷ pos 100_000 ∷ []) × (marks 10 2 "P" ≡ pos 1_028_170 ∷ negℤ (pos 100_000) ∷ [])
+    × (marks 8 6 "365000" ≡ pos 1_028_170 ∷ negℤ (pos 884_000) ∷ [])
+    × (marks 7 7 "2" ≡ pos 316_190 ∷ pos 100_000 ∷ []) × (marks 7 7 "4" ≡ negℤ (pos 39_810) ∷ pos 100_000 ∷ [])
+    -- Selection: cash settles on the calculation date, and a day after; the repo begins so; it ends so
+    × (marks 10 6 "20190612" ≡ pos 1_028_170 ∷ []) × (marks 10 6 "20190613" ≡ pos 1_028_170 ∷ pos 100_000 ∷ [])
+    × (marks 9 6 "20190612" ≡ pos 1_017_170 ∷ pos 100_000 ∷ []) × (marks 9 6 "20190613" ≡ pos 100_000 ∷ [])
+    × (marks 9 7 "20190612" ≡ pos 100_000 ∷ []) × (marks 9 7 "20190613" ≡ pos 1_028_170 ∷ pos 100_000 ∷ [])
+    -- To the nearest; a row takes both pairs of two classes; the larger side; never below zero
+    × (map (λ n. nearest n 365) (182 ∷ 183 ∷ []) ≡ 0 ∷ 1 ∷ [])
+    × (offsetRow priority (record { long = 0 ∷ 100 ∷ 50 ∷ []; short = 0 ∷ 70 ∷ 30 ∷ [] }) ≡ record { long = 0 ∷ 70 ∷ 0 ∷ []; short = 0 ∷ 20 ∷ 0 ∷ [] })
+    × (margin 5_000 3 5 ≡ 3) × (margin 5_000 5 3 ≡ 3) × (map (total 5) (negℤ (pos 1) ∷ pos 499 ∷ pos 500 ∷ pos 501 ∷ []) ≡ 501 ∷ 1 ∷ 0 ∷ 0 ∷ [])
+    -- A class with no margined trade has its K line
+    × (answer 32_768 (changed 10 6 "20190612") ≡ accepted (ascii "M;9;EUR;1028170\nK;EUR;6;1110160;0;39411\nK;EUR;7;0;0;0\nZ;EUR;1028170;39411;2912930\n"))
+    -- A buffer of 32,768 bytes or more, a sheet of 65,536 or fewer; 65,536 × refusal + line, or the length; what the buffer then holds
+    × (answer 32_767 (replicate 65_537 0) ≡ refused 1 0) × (answer 32_768 (replicate 65_537 0) ≡ refused 2 0) × (answer 32_768 (replicate 65_536 0) ≡ refused 3 1)
+    × (numberOf (refused 12 501) ≡ 786_933) × (bufferAfter (refused 12 501) (ascii "wxyz") ≡ ascii "wxyz")
+    × (numberOf (accepted (ascii "AB")) ≡ 2) × (bufferAfter (accepted (ascii "AB")) (ascii "wxyz") ≡ ascii "AByz")
+
+-- The claim
+pub limits : Limits
+unfolding nearest rounded isOpen workingAfter lines numberIn dateIn isCode digits valuedFrom rowsFrom readSheet summed offsetRow offsetAll classLine currencyLines reportOf
+limits =
+    (refl, refl, refl, refl, refl, refl, refl, refl, refl, refl, refl, refl, refl, refl, refl, refl, refl, refl, refl, refl, refl, refl, refl, refl, refl, refl, refl, refl, refl, refl, refl, refl, refl, refl, refl, refl, refl, refl, refl, refl, refl, refl, refl, refl, refl, refl, refl, refl, refl, refl, refl, refl, refl, refl, refl, refl, refl, refl, refl, refl, refl, refl, refl, refl, refl, refl, refl, refl, refl, refl, refl, refl, refl, refl, refl, refl, refl)
