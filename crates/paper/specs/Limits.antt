@@ -33,7 +33,7 @@ changed at place text =
 abbrev ok : Number
 ok = 0
 
--- The number of a refusal, where it falls on a line
+-- The number of a refusal on a line; a refusal further down leaves the line taken
 abbrev refusalOn : {A : Type 0} → Line → Outcome A → Number
 refusalOn seen (accepted a) = ok
 refusalOn seen (refused number line) = elim (eqb line seen) [ true ↦ number | false ↦ ok ]
@@ -72,6 +72,12 @@ abbrev bond : String → String → SecurityRow
 bond code currency =
     record { code = ascii code; currency = ascii currency; kind = government; duration = some 5; price = 1; coupon = 0; payments = 1; previous = 20_190_101; next = 20_200_101 }
 
+-- What an S row in a currency gets below so many rows, each in another
+abbrev below : ℕ → String → Number
+below many currency =
+    let above : List String = take many ("AAA" ∷ "BBB" ∷ "CCC" ∷ "DDD" ∷ "EEE" ∷ "FFF" ∷ "GGG" ∷ "HHH" ∷ []) in
+    first (securityRules classes (map (bond "AA0000000016") above) (bond "ZZ0000000016" currency))
+
 -- A T row
 abbrev sale : TradeRow
 sale =
@@ -80,8 +86,10 @@ sale =
 -- The table: a line, a field, texts for it and what each gives
 abbrev pub Limits : Type 0
 Limits =
+    -- Line 1: the mark and the version
+    (line 1 0 ("BRM" ∷ "BRN" ∷ []) ≡ ok ∷ 3 ∷ []) × (line 1 1 ("1" ∷ "2" ∷ "" ∷ []) ≡ ok ∷ 4 ∷ 4 ∷ [])
     -- D: calculation date, a day of 2000 on, no later than 23991220
-    (line 2 1 ("19991231" ∷ "20000101" ∷ "23991220" ∷ "23991221" ∷ "" ∷ []) ≡ 7 ∷ ok ∷ ok ∷ 7 ∷ 7 ∷ [])
+    × (line 2 1 ("19991231" ∷ "20000101" ∷ "23991220" ∷ "23991221" ∷ "" ∷ []) ≡ 7 ∷ ok ∷ ok ∷ 7 ∷ 7 ∷ [])
     -- C: class 1..40, rising; kind; border 1..1,000,000, rising for each kind; deposit factor 0..10,000
     × (line 3 1 ("" ∷ "0" ∷ "1" ∷ []) ≡ 6 ∷ 6 ∷ ok ∷ []) × (line 4 1 ("6" ∷ "40" ∷ "41" ∷ []) ≡ 9 ∷ ok ∷ 6 ∷ [])
     × (line 3 2 ("G" ∷ "C" ∷ "I" ∷ "F" ∷ "" ∷ []) ≡ ok ∷ ok ∷ 6 ∷ 6 ∷ 6 ∷ [])
@@ -122,9 +130,10 @@ Limits =
     -- Rows: at most 40 C, 200 O, 200 S, 500 T; at most 8 currencies
     × (map (λ above. first (classRules (replicate above (class 1 government 5)) (class 40 corporate 5))) (39 ∷ 40 ∷ []) ≡ ok ∷ 8 ∷ [])
     × (map (λ above. first (priorityRules classes (replicate above priority) priority)) (199 ∷ 200 ∷ []) ≡ ok ∷ 8 ∷ [])
-    × (map (λ above. first (securityRules classes (replicate above (bond "AA0000000016" "EUR")) (bond "ZZ0000000016" "EUR"))) (199 ∷ 200 ∷ []) ≡ ok ∷ 8 ∷ [])
+    × (map (λ above. first (securityRules classes (replicate above (bond "AA0000000016" "EUR")) (bond "ZZ0000000016" "EUR"))) (199 ∷ 200 ∷ [])
+    ≡ ok ∷ 8 ∷ [])
     × (map (λ above. first (tradeRules (day 20_190_612) (bond "ZZ0000000016" "EUR" ∷ []) (replicate above sale) sale)) (499 ∷ 500 ∷ []) ≡ ok ∷ 8 ∷ [])
-    × (map (λ above. first (securityRules classes (map (bond "AA0000000016") (take {A = String} above ("A" ∷ "B" ∷ "C" ∷ "D" ∷ "E" ∷ "F" ∷ "G" ∷ "H" ∷ []))) (bond "ZZ0000000016" "EUR"))) (7 ∷ 8 ∷ []) ≡ ok ∷ 8 ∷ [])
+    × (below 7 "EUR" ≡ ok) × (below 8 "EUR" ≡ 8) × (below 8 "AAA" ≡ ok)
     -- Accrual at or after the previous coupon date, before the next: the repo's on 20190613, a day after calculation; cash on 20190614
     × (seenOn 9 7 8 ("20190613" ∷ "20190614" ∷ []) ≡ ok ∷ 12 ∷ []) × (seenOn 9 7 9 ("20190613" ∷ "20190614" ∷ []) ≡ 12 ∷ ok ∷ [])
     × (seenOn 10 8 8 ("20190614" ∷ "20190615" ∷ []) ≡ ok ∷ 12 ∷ []) × (seenOn 10 8 9 ("20190614" ∷ "20190615" ∷ []) ≡ 12 ∷ ok ∷ [])
@@ -140,6 +149,8 @@ Limits =
     × (map day (20_000_101 ∷ 20_000_301 ∷ 20_010_101 ∷ 20_190_301 ∷ 23_991_231 ∷ []) ≡ 0 ∷ 60 ∷ 366 ∷ 6_999 ∷ 146_096 ∷ [])
     -- First working day after a Thursday, a Friday, a Saturday, a Sunday
     × (map (λ date. workingAfter (day date)) (20_190_613 ∷ 20_190_614 ∷ 20_190_615 ∷ 20_190_616 ∷ []) ≡ map day (20_190_614 ∷ 20_190_617 ∷ 20_190_617 ∷ 20_190_617 ∷ []))
+    -- Calculated on a Friday, the repo runs to the Monday, and cash that settles that day is out
+    × (marks 2 1 "20190614" ≡ pos 1_057_730 ∷ [])
     -- Sides, of the repo and of cash; a coupon on cash, to its settlement; payments a year, on the repo
     × (marks 9 2 "P" ≡ negℤ (pos 1_028_170) ∷ pos 100_000 ∷ []) × (marks 10 2 "P" ≡ pos 1_028_170 ∷ negℤ (pos 100_000) ∷ [])
     × (marks 8 6 "365000" ≡ pos 1_028_170 ∷ negℤ (pos 884_000) ∷ [])
@@ -162,5 +173,4 @@ Limits =
 -- The claim
 pub limits : Limits
 unfolding nearest rounded isOpen workingAfter lines numberIn dateIn isCode digits valuedFrom rowsFrom readSheet summed offsetRow offsetAll classLine currencyLines reportOf
-limits =
-    (refl, refl, refl, refl, refl, refl, refl, refl, refl, refl, refl, refl, refl, refl, refl, refl, refl, refl, refl, refl, refl, refl, refl, refl, refl, refl, refl, refl, refl, refl, refl, refl, refl, refl, refl, refl, refl, refl, refl, refl, refl, refl, refl, refl, refl, refl, refl, refl, refl, refl, refl, refl, refl, refl, refl, refl, refl, refl, refl, refl, refl, refl, refl, refl, refl, refl, refl, refl, refl, refl, refl, refl, refl, refl, refl, refl, refl)
+limits = (refl, refl, refl, refl, refl, refl, refl, refl, refl, refl, refl, refl, refl, refl, refl, refl, refl, refl, refl, refl, refl, refl, refl, refl, refl, refl, refl, refl, refl, refl, refl, refl, refl, refl, refl, refl, refl, refl, refl, refl, refl, refl, refl, refl, refl, refl, refl, refl, refl, refl, refl, refl, refl, refl, refl, refl, refl, refl, refl, refl, refl, refl, refl, refl, refl, refl, refl, refl, refl, refl, refl, refl, refl, refl, refl, refl, refl, refl, refl, refl, refl, refl)
