@@ -9,14 +9,17 @@ fn main() {
     let package = PathBuf::from(env::var("CARGO_MANIFEST_DIR").unwrap_or_default());
     let folder = match env::var_os("KIT_LIB") {
         Some(folder) => PathBuf::from(folder),
-        None => package.join("../../target/staticlib"),
+        None => package.join("../../target/hosts"),
     };
     let library = folder.join("libkit.a");
     println!("cargo:rerun-if-env-changed=KIT_LIB");
     println!("cargo:rerun-if-changed=build.rs");
     println!("cargo:rerun-if-changed={}", library.display());
     if !library.is_file() {
-        eprintln!("no {}: run `rt staticlib kit` first, or name its folder in KIT_LIB", library.display());
+        eprintln!(
+            "no {}: run `hosts/build` at the top of the project first, or name the library's folder in KIT_LIB",
+            library.display()
+        );
         exit(1);
     }
     println!("cargo:rustc-link-search=native={}", folder.display());

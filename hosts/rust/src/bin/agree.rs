@@ -1,18 +1,14 @@
 //! Holds the kit against the plain implementation on as many generated sheets as asked for:
 //! `cargo run --release --bin agree -- SHEETS [SEED]`. A case that differs is printed and ends the run.
 
+use gronnhyl_host::asked::Asked;
 use gronnhyl_host::sheets::case;
 use gronnhyl_host::together::{Tally, Together};
 use std::io::Write;
 use std::process::ExitCode;
 
-const USUAL_SEED: u64 = 1;
-
 fn main() -> ExitCode {
-    let mut words = std::env::args().skip(1);
-    let sheets = words.next().map(|word| word.parse::<u64>());
-    let seed = words.next().map_or(Ok(USUAL_SEED), |word| word.parse());
-    let (Some(Ok(sheets)), Ok(seed), None) = (sheets, seed, words.next()) else {
+    let Some(Asked { sheets, seed }) = Asked::from_words() else {
         eprintln!("agree SHEETS [SEED]");
         return ExitCode::from(2);
     };

@@ -6,7 +6,7 @@
 //! the clearing.
 
 use gronnhyl_host::plain::{self, LEAST_ROOM};
-use gronnhyl_host::{kit, sheets};
+use gronnhyl_host::{kit, processor, sheets};
 use std::hint::black_box;
 use std::time::Instant;
 
@@ -112,5 +112,6 @@ fn main() {
     let [kit, plain, kit_not, plain_not, reading, margining, writing] = sums.map(|sum| sum / SHEETS as f64);
     println!("    mean         {kit:7.1} {plain:7.1} {kit_not:7.1} {plain_not:7.1}");
     println!("plain by steps: reading {reading:.1}, margining {margining:.1}, report {writing:.1}");
-    println!("kit over plain: cleared {:.2}, not cleared {:.2}", kit / plain, kit_not / plain_not);
+    let (ratio, ratio_not) = (kit / plain, kit_not / plain_not);
+    println!("kit over plain: cleared {ratio:.2}, not cleared {ratio_not:.2}; on {}", processor::name());
 }
