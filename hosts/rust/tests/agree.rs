@@ -1,7 +1,7 @@
 //! The kit and the plain implementation on generated sheets: the same number back and the same bytes in the buffer.
 //! SHEETS sets how many, SEED which ones.
 
-use gronnhyl_host::sheets::{case, Aim, Case};
+use gronnhyl_host::sheets::{case, largest, Aim, Case};
 use gronnhyl_host::together::{Tally, Together};
 
 fn setting(name: &str, usual: u64) -> u64 {
@@ -41,4 +41,16 @@ fn empty_slices() {
     assert_eq!(answer(b"", 0), Ok(65_536));
     assert_eq!(answer(b"", 32_768), Ok(3 * 65_536 + 1));
     assert_eq!(gronnhyl_host::kit::brm_margin(&[], &mut []), 65_536);
+}
+
+/// What ../kit.h asks of a thread that calls the kit. A call that needs more ends the whole test.
+#[test]
+fn a_thread_with_512_kilobytes_of_stack() {
+    let calls = || {
+        let mut report = vec![0; 32_768];
+        (0..16).map(|number| gronnhyl_host::kit::brm_margin(&largest(1, number), &mut report)).max()
+    };
+    let thread = std::thread::Builder::new().stack_size(512 * 1024).spawn(calls).expect("a thread");
+    let longest = thread.join().expect("the calls come back"); // bytes
+    assert!(longest.is_some_and(|length| (1..65_536).contains(&length)), "a largest sheet is accepted: {longest:?}");
 }

@@ -1,0 +1,29 @@
+/* The margin kit, for C and what can call C: x86-64 and Arm (aarch64) Linux. hosts/build makes libkit.a and libkit.so.
+ *
+ * What the caller answers for, since the kit cannot see it:
+ * - sheet can be read for sheet_len bytes, and report written for report_len bytes; where a length is 0, any address will do;
+ * - the two do not overlap, and nothing else writes to either while the call lasts;
+ * - a call takes 240,000 bytes of stack, and through libkit.so 3,000 more the first time. A thread with less is ended by the
+ *   operating system, so give one that calls the kit 512 KB or more.
+ * The kit keeps nothing between calls: any number of threads may call it at once. It calls memcpy, memmove and memset alone.
+ */
+#ifndef GRONNHYL_KIT_H
+#define GRONNHYL_KIT_H
+
+#include <stddef.h>
+#include <stdint.h>
+
+#ifdef __cplusplus
+extern "C" {
+#endif
+
+/* The report of a sheet. Accepted: the report's length in bytes, below 65,536, with the report at the start of the buffer
+ * and every later byte as it was. Refused: 65,536 * refusal + line, and every byte of the buffer as it was.
+ * A report_len of 32,768 bytes is enough for any sheet; with less, every sheet is refused 1. */
+uint64_t brm_margin(const uint8_t *sheet, size_t sheet_len, uint8_t *report, size_t report_len);
+
+#ifdef __cplusplus
+}
+#endif
+
+#endif
