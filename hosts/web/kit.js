@@ -31,7 +31,7 @@ class Kit {
         return { number: Math.floor(answer / REFUSAL), line: answer % REFUSAL };
     }
 
-    /** As a caller in C has it: the report buffer is lent with what stands in it, and the answer is the one number. */
+    /** As a caller in C has it: the report buffer is lent with what stands in it, and the one number comes back. */
     call(sheet, report) {
         bytes('report buffer', report);
         const { answer, lent } = this.#call(sheet, report.length, (room) => room.set(report));
@@ -60,7 +60,7 @@ class Kit {
         return { answer: Number(BigInt.asUintN(64, answer)), lent: () => part(at.report, room) };
     }
 
-    #reach(end) {
+    #reach(end /* bytes */) {
         const pages = Math.ceil((end - this.memory.buffer.byteLength) / PAGE);
         if (pages <= 0) return;
         try {

@@ -142,6 +142,7 @@ function deepest() {
     return used;
 }
 
+assert.equal(process.argv.length, 3, 'usage: node hosts/web/test.mjs ANSWERS');
 const written = cases();
 const [accepted, ...refusals] = generated(process.argv[2]);
 borders();
