@@ -9,10 +9,18 @@ const MOST = 65537; // bytes
 
 class Failure extends Error {}
 
+// Node takes a folder on standard input for an empty sheet. Not every system tells what stands there; then it is read
+function folderOnInput() {
+    try {
+        return fstatSync(0).isDirectory();
+    } catch {
+        return false;
+    }
+}
+
 async function read(file) {
     try {
-        const readable = file === undefined ? !fstatSync(0).isDirectory() : statSync(file).isFile();
-        if (!readable) throw new Error('no file');
+        if (file === undefined ? folderOnInput() : !statSync(file).isFile()) throw new Error('no file');
         const stream = file === undefined ? process.stdin : createReadStream(file, { end: MOST - 1 });
         const pieces = [];
         let length = 0; // bytes
