@@ -14,7 +14,7 @@ use Rattle.paper.specs.Lists.{joinedUp, given}
 use Rattle.paper.specs.Rounding.{nearest, rounded}
 use Rattle.paper.specs.Days.{day, isDay, isOpen, workingAfter}
 use Rattle.paper.specs.Text.{ascii, lines, lineOf, isDigit, isLetter, numberIn, dateIn, isCode, digits}
-use Rattle.paper.specs.Rows.{Kind, government, corporate, inflation, floating, cash, seller, ClassRow, PriorityRow, SecurityRow, TradeRow}
+use Rattle.paper.specs.Rows.{Kind, government, corporate, inflation, floating, cash, seller, ClassRow, PriorityRow, SecurityRow, TradeRow, kindIn, readPriority}
 use Rattle.paper.specs.Valuation.{valuedFrom, valuedIn}
 use Rattle.paper.specs.Refusals.{Outcome, refused, accepted, Rule, judged, isDuration, classRules, priorityRules, securityRules, tradeRules}
 use Rattle.paper.specs.Sheet.{rowsFrom, readSheet}
@@ -83,6 +83,15 @@ abbrev sale : TradeRow
 sale =
     record { trade = cash; side = seller; code = ascii "ZZ0000000016"; nominal = 1; amount = 1; first = 20_190_614; last = none; rate = none }
 
+-- The report of document 01's sheet where line 8 has francs
+abbrev francs : Text
+francs =
+    joinedUp
+    (ascii "M;9;EUR;1028170\nM;10;CHF;100000\n"
+    ∷ ascii "K;CHF;6;0;0;0\nK;CHF;7;0;600000;29400\nZ;CHF;100000;29400;2840000\n"
+    ∷ ascii "K;EUR;6;1110160;0;39411\nK;EUR;7;0;0;0\nZ;EUR;1028170;39411;2912930\n"
+    ∷ [])
+
 -- The table: a line, a field, texts for it and what each gives
 abbrev pub Limits : Type 0
 Limits =
@@ -104,7 +113,7 @@ Limits =
     -- S: code, rising; currency; kind; duration 1..1,000,000, and the class for it; price 1..20,000,000; coupon 0..2,000,000;
     -- payments a year 1, 2 or 4; next coupon date 1 to 400 days after 20190101
     × (line 8 1 ("FR0011337880" ∷ "FR0011337881" ∷ "ZZZZZZZZZZZ9" ∷ []) ≡ 9 ∷ ok ∷ ok ∷ [])
-    × (line 8 1 ("Z00000000016" ∷ "ZZ000000001Z" ∷ "ZZ000000001" ∷ "" ∷ []) ≡ 6 ∷ 6 ∷ 6 ∷ 6 ∷ [])
+    × (line 8 1 ("Z00000000016" ∷ "ZZ00000000-6" ∷ "ZZ000000001Z" ∷ "ZZ000000001" ∷ "ZZ00000000016" ∷ "" ∷ []) ≡ 6 ∷ 6 ∷ 6 ∷ 6 ∷ 6 ∷ 6 ∷ [])
     × (line 8 2 ("EU" ∷ "EU1" ∷ "USD" ∷ "EURO" ∷ []) ≡ 6 ∷ 6 ∷ ok ∷ 6 ∷ [])
     × (line 8 3 ("G" ∷ "C" ∷ "I" ∷ "F" ∷ "" ∷ []) ≡ ok ∷ 11 ∷ 6 ∷ 6 ∷ 6 ∷ [])
     × (line 8 4 ("" ∷ "0" ∷ "1" ∷ "47500" ∷ "47501" ∷ "1000000" ∷ "1000001" ∷ []) ≡ 6 ∷ 6 ∷ ok ∷ ok ∷ 11 ∷ 11 ∷ 6 ∷ [])
@@ -137,6 +146,10 @@ Limits =
     -- Accrual at or after the previous coupon date, before the next: the repo's on 20190613, a day after calculation; cash on 20190614
     × (seenOn 9 7 8 ("20190613" ∷ "20190614" ∷ []) ≡ ok ∷ 12 ∷ []) × (seenOn 9 7 9 ("20190613" ∷ "20190614" ∷ []) ≡ 12 ∷ ok ∷ [])
     × (seenOn 10 8 8 ("20190614" ∷ "20190615" ∷ []) ≡ ok ∷ 12 ∷ []) × (seenOn 10 8 9 ("20190614" ∷ "20190615" ∷ []) ≡ 12 ∷ ok ∷ [])
+    × (seenOn 9 2 1 ("23991220" ∷ []) ≡ ok ∷ [])  -- not margined
+    -- Letters of the kinds; classes of an O row
+    × (map (λ text. kindIn (ascii text)) ("G" ∷ "C" ∷ "I" ∷ "F" ∷ []) ≡ some government ∷ some corporate ∷ some inflation ∷ some floating ∷ [])
+    × (readPriority (getD (lines sheet) 5 []) ≡ some (record { first = 6; second = 7; factor = 5_000 }))
     -- Digits, letters; a number of 19 digits, and of 20
     × (map isDigit (ascii "/09:") ≡ false ∷ true ∷ true ∷ false ∷ []) × (map isLetter (ascii "@AZ[") ≡ false ∷ true ∷ true ∷ false ∷ [])
     × (map (λ text. given (numberIn (ascii text))) ("9999999999999999999" ∷ "10000000000000000000" ∷ []) ≡ true ∷ false ∷ [])
@@ -163,8 +176,8 @@ Limits =
     × (map (λ n. nearest n 365) (182 ∷ 183 ∷ []) ≡ 0 ∷ 1 ∷ [])
     × (offsetRow priority (record { long = 0 ∷ 100 ∷ 50 ∷ []; short = 0 ∷ 70 ∷ 30 ∷ [] }) ≡ record { long = 0 ∷ 70 ∷ 0 ∷ []; short = 0 ∷ 20 ∷ 0 ∷ [] })
     × (margin 5_000 3 5 ≡ 3) × (margin 5_000 5 3 ≡ 3) × (map (total 5) (negℤ (pos 1) ∷ pos 499 ∷ pos 500 ∷ pos 501 ∷ []) ≡ 501 ∷ 1 ∷ 0 ∷ 0 ∷ [])
-    -- A class with no margined trade has its K line
-    × (answer 32_768 (changed 10 6 "20190612") ≡ accepted (ascii "M;9;EUR;1028170\nK;EUR;6;1110160;0;39411\nK;EUR;7;0;0;0\nZ;EUR;1028170;39411;2912930\n"))
+    -- Line 8 in Swiss francs: currencies apart and rising, a K line for every class, also where nothing is left
+    × (answer 32_768 (changed 8 2 "CHF") ≡ accepted francs)
     -- A buffer of 32,768 bytes or more, a sheet of 65,536 or fewer; 65,536 × refusal + line, or the length; what the buffer then holds
     × (answer 32_767 (replicate 65_537 0) ≡ refused 1 0) × (answer 32_768 (replicate 65_537 0) ≡ refused 2 0) × (answer 32_768 (replicate 65_536 0) ≡ refused 3 1)
     × (numberOf (refused 12 501) ≡ 786_933) × (bufferAfter (refused 12 501) (ascii "wxyz") ≡ ascii "wxyz")
@@ -173,4 +186,4 @@ Limits =
 -- The claim
 pub limits : Limits
 unfolding nearest rounded isOpen workingAfter lines numberIn dateIn isCode digits valuedFrom rowsFrom readSheet summed offsetRow offsetAll classLine currencyLines reportOf
-limits = (refl, refl, refl, refl, refl, refl, refl, refl, refl, refl, refl, refl, refl, refl, refl, refl, refl, refl, refl, refl, refl, refl, refl, refl, refl, refl, refl, refl, refl, refl, refl, refl, refl, refl, refl, refl, refl, refl, refl, refl, refl, refl, refl, refl, refl, refl, refl, refl, refl, refl, refl, refl, refl, refl, refl, refl, refl, refl, refl, refl, refl, refl, refl, refl, refl, refl, refl, refl, refl, refl, refl, refl, refl, refl, refl, refl, refl, refl, refl, refl, refl, refl)
+limits = (refl, refl, refl, refl, refl, refl, refl, refl, refl, refl, refl, refl, refl, refl, refl, refl, refl, refl, refl, refl, refl, refl, refl, refl, refl, refl, refl, refl, refl, refl, refl, refl, refl, refl, refl, refl, refl, refl, refl, refl, refl, refl, refl, refl, refl, refl, refl, refl, refl, refl, refl, refl, refl, refl, refl, refl, refl, refl, refl, refl, refl, refl, refl, refl, refl, refl, refl, refl, refl, refl, refl, refl, refl, refl, refl, refl, refl, refl, refl, refl, refl, refl, refl, refl, refl)
