@@ -4,7 +4,7 @@ use Prim.Native.Nat.{ℕ, _+_, _-_}
 use Prim.Native.String.{String}
 use mathlib.Core.Bool.{true, false}
 use mathlib.Core.List.{List, [], _∷_, map}
-use mathlib.Core.Option.{none, some}
+use mathlib.Core.Option.{Option, none, some}
 use mathlib.Core.Path.{_≡_, refl}
 use lib.Dec.{eqb}
 use lib.IntN.{pos, negℤ}
@@ -56,12 +56,12 @@ abbrev first : List Rule → Number
 first rules = refusalOn 0 (judged 0 rules rules)
 
 -- A C row, by class, kind and border in ten-thousandths of a year
-abbrev class : Class → Kind → Duration → ClassRow
-class n kind border = record { class = n; kind = kind; border = some border; deposit = 0 }
+abbrev class : Class → Kind → Option Duration → ClassRow
+class n kind border = record { class = n; kind = kind; border = border; deposit = 0 }
 
 -- Two C rows, the lower one first
 abbrev classes : List ClassRow
-classes = class 2 corporate 5 ∷ class 1 government 5 ∷ []
+classes = class 2 corporate (some 5) ∷ class 1 government (some 5) ∷ []
 
 -- An O row
 abbrev priority : PriorityRow
@@ -104,7 +104,7 @@ Limits =
     × (line 3 2 ("G" ∷ "C" ∷ "I" ∷ "F" ∷ "" ∷ []) ≡ ok ∷ ok ∷ 6 ∷ 6 ∷ 6 ∷ [])
     × (line 3 3 ("" ∷ "0" ∷ "1" ∷ "1000000" ∷ "1000001" ∷ []) ≡ 6 ∷ 6 ∷ ok ∷ ok ∷ 6 ∷ [])
     × (line 4 3 ("32500" ∷ "32501" ∷ []) ≡ 9 ∷ ok ∷ [])
-    × (map (λ c. first (classRules classes c)) (class 3 government 5 ∷ class 3 government 6 ∷ class 2 government 6 ∷ []) ≡ 9 ∷ ok ∷ 9 ∷ [])
+    × (map (λ c. first (classRules classes c)) (class 3 government (some 5) ∷ class 3 government (some 6) ∷ class 2 government (some 6) ∷ []) ≡ 9 ∷ ok ∷ 9 ∷ [])
     × (line 3 4 ("" ∷ "0" ∷ "10000" ∷ "10001" ∷ []) ≡ 6 ∷ ok ∷ ok ∷ 6 ∷ [])
     -- O: class; class, both on the sheet; factor 0..10,000
     × (line 6 1 ("0" ∷ "5" ∷ "6" ∷ "7" ∷ "8" ∷ "41" ∷ []) ≡ 6 ∷ 10 ∷ ok ∷ ok ∷ 10 ∷ 6 ∷ [])
@@ -121,9 +121,10 @@ Limits =
     × (line 8 6 ("" ∷ "0" ∷ "2000000" ∷ "2000001" ∷ []) ≡ 6 ∷ ok ∷ ok ∷ 6 ∷ [])
     × (line 8 7 ("0" ∷ "1" ∷ "2" ∷ "3" ∷ "4" ∷ "5" ∷ []) ≡ 6 ∷ ok ∷ ok ∷ 6 ∷ ok ∷ 6 ∷ [])
     × (line 8 9 ("20190101" ∷ "20190102" ∷ "20200205" ∷ "20200206" ∷ "" ∷ []) ≡ 7 ∷ ok ∷ ok ∷ 7 ∷ 7 ∷ [])
-    -- Border and duration are blank exactly for kinds I and F
+    -- Border and duration are blank exactly for kinds I and F, which have at most one class each
     × (map (λ kind. isDuration kind none) (government ∷ corporate ∷ inflation ∷ floating ∷ []) ≡ false ∷ false ∷ true ∷ true ∷ [])
     × (map (λ kind. isDuration kind (some 1)) (government ∷ corporate ∷ inflation ∷ floating ∷ []) ≡ true ∷ true ∷ false ∷ false ∷ [])
+    × (map (λ kind. first (classRules (class 1 inflation none ∷ []) (class 2 kind none))) (inflation ∷ floating ∷ []) ≡ 9 ∷ ok ∷ [])
     -- T: R or C; S or P; a code of the sheet; nominal 1..100,000,000; amount 1..30,000,000,000; a repo's last date 1 to 730
     -- days after 20190603; rate -200,000..200,000; both blank for cash
     × (line 9 1 ("R" ∷ "C" ∷ "" ∷ []) ≡ ok ∷ 6 ∷ 6 ∷ []) × (line 9 2 ("S" ∷ "P" ∷ "" ∷ []) ≡ ok ∷ ok ∷ 6 ∷ [])
@@ -137,7 +138,7 @@ Limits =
     × (map (λ at. line at 0 ("X" ∷ [])) (2 ∷ 3 ∷ 5 ∷ 7 ∷ 9 ∷ []) ≡ replicate 5 (5 ∷ []))
     × (map (λ at. line at 1 ("6;6" ∷ [])) (2 ∷ 3 ∷ 5 ∷ 7 ∷ 9 ∷ []) ≡ replicate 5 (5 ∷ []))
     -- Rows: at most 40 C, 200 O, 200 S, 500 T; at most 8 currencies
-    × (map (λ above. first (classRules (replicate above (class 1 government 5)) (class 40 corporate 5))) (39 ∷ 40 ∷ []) ≡ ok ∷ 8 ∷ [])
+    × (map (λ above. first (classRules (replicate above (class 1 government (some 5))) (class 40 corporate (some 5)))) (39 ∷ 40 ∷ []) ≡ ok ∷ 8 ∷ [])
     × (map (λ above. first (priorityRules classes (replicate above priority) priority)) (199 ∷ 200 ∷ []) ≡ ok ∷ 8 ∷ [])
     × (map (λ above. first (securityRules classes (replicate above (bond "AA0000000016" "EUR")) (bond "ZZ0000000016" "EUR"))) (199 ∷ 200 ∷ [])
     ≡ ok ∷ 8 ∷ [])
@@ -186,4 +187,4 @@ Limits =
 -- The claim
 pub limits : Limits
 unfolding nearest rounded isOpen workingAfter lines numberIn dateIn isCode digits valuedFrom rowsFrom readSheet summed offsetRow offsetAll classLine currencyLines reportOf
-limits = (refl, refl, refl, refl, refl, refl, refl, refl, refl, refl, refl, refl, refl, refl, refl, refl, refl, refl, refl, refl, refl, refl, refl, refl, refl, refl, refl, refl, refl, refl, refl, refl, refl, refl, refl, refl, refl, refl, refl, refl, refl, refl, refl, refl, refl, refl, refl, refl, refl, refl, refl, refl, refl, refl, refl, refl, refl, refl, refl, refl, refl, refl, refl, refl, refl, refl, refl, refl, refl, refl, refl, refl, refl, refl, refl, refl, refl, refl, refl, refl, refl, refl, refl, refl, refl)
+limits = (refl, refl, refl, refl, refl, refl, refl, refl, refl, refl, refl, refl, refl, refl, refl, refl, refl, refl, refl, refl, refl, refl, refl, refl, refl, refl, refl, refl, refl, refl, refl, refl, refl, refl, refl, refl, refl, refl, refl, refl, refl, refl, refl, refl, refl, refl, refl, refl, refl, refl, refl, refl, refl, refl, refl, refl, refl, refl, refl, refl, refl, refl, refl, refl, refl, refl, refl, refl, refl, refl, refl, refl, refl, refl, refl, refl, refl, refl, refl, refl, refl, refl, refl, refl, refl, refl)
