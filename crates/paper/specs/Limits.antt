@@ -13,7 +13,7 @@ use Rattle.paper.specs.Units.{Text, Number, Line, Class, Duration, Signe
 use Rattle.paper.specs.Lists.{joinedUp, given}
 use Rattle.paper.specs.Rounding.{nearest, rounded}
 use Rattle.paper.specs.Days.{day, isDay, isOpen, workingAfter}
-use Rattle.paper.specs.Text.{ascii, lines, lineOf, isDigit, isLetter, numberIn, dateIn, isCode, digits}
+use Rattle.paper.specs.Text.{ascii, LF, semicolon, pieces, lines, parted, isDigit, isLetter, numberIn, dateIn, isCode, digits}
 use Rattle.paper.specs.Rows.{Kind, government, corporate, inflation, floating, cash, seller, ClassRow, PriorityRow, SecurityRow, TradeRow, kindIn, readPriority}
 use Rattle.paper.specs.Valuation.{valuedFrom, valuedIn}
 use Rattle.paper.specs.Refusals.{Outcome, refused, accepted, Rule, judged, isDuration, classRules, priorityRules, securityRules, tradeRules}
@@ -26,8 +26,9 @@ use Rattle.paper.specs.Example.{sheet}
 -- Document 01's sheet with another text in a field of a line; field 0 is the letter
 abbrev changed : Line → ℕ → String → Text
 changed at place text =
-    let rows = lines sheet in
-    joinedUp (map lineOf (set rows (at - 1) (set (getD rows (at - 1) []) place (ascii text))))
+    let rows = pieces LF sheet in
+    let fields = pieces semicolon (getD rows (at - 1) []) in
+    parted LF (set rows (at - 1) (parted semicolon (set fields place (ascii text))))
 
 -- No refusal
 abbrev ok : Number
@@ -165,9 +166,10 @@ Limits =
     × (map (λ date. workingAfter (day date)) (20_190_613 ∷ 20_190_614 ∷ 20_190_615 ∷ 20_190_616 ∷ []) ≡ map day (20_190_614 ∷ 20_190_617 ∷ 20_190_617 ∷ 20_190_617 ∷ []))
     -- Calculated on a Friday, the repo runs to the Monday, and cash that settles that day is out
     × (marks 2 1 "20190614" ≡ pos 1_057_730 ∷ [])
-    -- Sides, of the repo and of cash; a coupon on cash, to its settlement; payments a year, on the repo
+    -- Sides, of the repo and of cash; a coupon on cash, to its settlement; a period of 366 days and payments a year, on the repo
     × (marks 9 2 "P" ≡ negℤ (pos 1_028_170) ∷ pos 100_000 ∷ []) × (marks 10 2 "P" ≡ pos 1_028_170 ∷ negℤ (pos 100_000) ∷ [])
     × (marks 8 6 "365000" ≡ pos 1_028_170 ∷ negℤ (pos 884_000) ∷ [])
+    × (marks 7 9 "20191026" ≡ pos 1_024_280 ∷ pos 100_000 ∷ [])
     × (marks 7 7 "2" ≡ pos 316_190 ∷ pos 100_000 ∷ []) × (marks 7 7 "4" ≡ negℤ (pos 39_810) ∷ pos 100_000 ∷ [])
     -- Selection: cash settles on the calculation date, and a day after; the repo begins so; it ends so
     × (marks 10 6 "20190612" ≡ pos 1_028_170 ∷ []) × (marks 10 6 "20190613" ≡ pos 1_028_170 ∷ pos 100_000 ∷ [])
@@ -180,11 +182,11 @@ Limits =
     -- Line 8 in Swiss francs: currencies apart and rising, a K line for every class, also where nothing is left
     × (answer 32_768 (changed 8 2 "CHF") ≡ accepted francs)
     -- A buffer of 32,768 bytes or more, a sheet of 65,536 or fewer; 65,536 × refusal + line, or the length; what the buffer then holds
-    × (answer 32_767 (replicate 65_537 0) ≡ refused 1 0) × (answer 32_768 (replicate 65_537 0) ≡ refused 2 0) × (answer 32_768 (replicate 65_536 0) ≡ refused 3 1)
+    × (answer 32_767 [] ≡ refused 1 0) × (answer 32_768 (replicate 65_537 0) ≡ refused 2 0) × (answer 32_768 (replicate 65_536 0) ≡ refused 3 1)
     × (numberOf (refused 12 501) ≡ 786_933) × (bufferAfter (refused 12 501) (ascii "wxyz") ≡ ascii "wxyz")
     × (numberOf (accepted (ascii "AB")) ≡ 2) × (bufferAfter (accepted (ascii "AB")) (ascii "wxyz") ≡ ascii "AByz")
 
 -- The claim
 pub limits : Limits
 unfolding nearest rounded isOpen workingAfter lines numberIn dateIn isCode digits valuedFrom rowsFrom readSheet summed offsetRow offsetAll classLine currencyLines reportOf
-limits = (refl, refl, refl, refl, refl, refl, refl, refl, refl, refl, refl, refl, refl, refl, refl, refl, refl, refl, refl, refl, refl, refl, refl, refl, refl, refl, refl, refl, refl, refl, refl, refl, refl, refl, refl, refl, refl, refl, refl, refl, refl, refl, refl, refl, refl, refl, refl, refl, refl, refl, refl, refl, refl, refl, refl, refl, refl, refl, refl, refl, refl, refl, refl, refl, refl, refl, refl, refl, refl, refl, refl, refl, refl, refl, refl, refl, refl, refl, refl, refl, refl, refl, refl, refl, refl, refl)
+limits = (refl, refl, refl, refl, refl, refl, refl, refl, refl, refl, refl, refl, refl, refl, refl, refl, refl, refl, refl, refl, refl, refl, refl, refl, refl, refl, refl, refl, refl, refl, refl, refl, refl, refl, refl, refl, refl, refl, refl, refl, refl, refl, refl, refl, refl, refl, refl, refl, refl, refl, refl, refl, refl, refl, refl, refl, refl, refl, refl, refl, refl, refl, refl, refl, refl, refl, refl, refl, refl, refl, refl, refl, refl, refl, refl, refl, refl, refl, refl, refl, refl, refl, refl, refl, refl, refl, refl)
