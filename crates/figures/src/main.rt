@@ -18,7 +18,10 @@ fn say(name: &[u8], same: bool) {
 fn read_file(name: &[u8], text: &mut [u8]) -> usize
     ensures { λ r. ⌜ Counts r (now (text .exit)) ⌝ }
 {
-    io::read_full(os::open_read(name), text)
+    let file = os::open_read(name); // a descriptor
+    let size = io::read_full(file, text); // bytes
+    libc::close(file);
+    size
 }
 
 // One case, by the places of its two files among the arguments.
