@@ -11,6 +11,7 @@ use lib.IntN.{pos, negℤ}
 use lib.ListN.{getD, set, take, replicate}
 use Rattle.paper.specs.Units.{Text, Number, Line, Class, Duration, SignedCents}
 use Rattle.paper.specs.Lists.{joinedUp, given}
+use Rattle.paper.specs.Signs.{aboveZero, belowZero}
 use Rattle.paper.specs.Rounding.{nearest, rounded}
 use Rattle.paper.specs.Days.{day, isDay, isOpen, workingAfter}
 use Rattle.paper.specs.Text.{ascii, LF, semicolon, pieces, lines, parted, isDigit, isLetter, numberIn, dateIn, isCode, digits}
@@ -18,7 +19,7 @@ use Rattle.paper.specs.Rows.{Kind, government, corporate, inflation, flo
 use Rattle.paper.specs.Valuation.{valuedFrom, valuedIn}
 use Rattle.paper.specs.Refusals.{Outcome, refused, accepted, Rule, judged, isDuration, classRules, priorityRules, securityRules, tradeRules}
 use Rattle.paper.specs.Sheet.{rowsFrom, readSheet}
-use Rattle.paper.specs.Offsetting.{summed, offsetRow, offsetAll, margin, total}
+use Rattle.paper.specs.Offsetting.{position, summed, offsetRow, offsetAll, margin, total}
 use Rattle.paper.specs.Report.{classLine, currencyLines, reportOf}
 use Rattle.paper.specs.Answer.{answer, numberOf, bufferAfter}
 use Rattle.paper.specs.Example.{sheet}
@@ -175,6 +176,8 @@ Limits =
     × (marks 10 6 "20190612" ≡ pos 1_028_170 ∷ []) × (marks 10 6 "20190613" ≡ pos 1_028_170 ∷ pos 100_000 ∷ [])
     × (marks 9 6 "20190612" ≡ pos 1_017_170 ∷ pos 100_000 ∷ []) × (marks 9 6 "20190613" ≡ pos 100_000 ∷ [])
     × (marks 9 7 "20190612" ≡ pos 100_000 ∷ []) × (marks 9 7 "20190613" ≡ pos 1_028_170 ∷ pos 100_000 ∷ [])
+    -- Long and short of a class are sums, of the nets above zero and of those below
+    × (map (λ side. position (summed side (map (λ net. record { class = 1; net = net }) (pos 5 ∷ pos 3 ∷ negℤ (pos 2) ∷ []))) 1) (aboveZero ∷ belowZero ∷ []) ≡ 8 ∷ 2 ∷ [])
     -- To the nearest; a row takes both pairs of two classes; the larger side; never below zero
     × (map (λ n. nearest n 365) (182 ∷ 183 ∷ []) ≡ 0 ∷ 1 ∷ [])
     × (offsetRow priority (record { long = 0 ∷ 100 ∷ 50 ∷ []; short = 0 ∷ 70 ∷ 30 ∷ [] }) ≡ record { long = 0 ∷ 70 ∷ 0 ∷ []; short = 0 ∷ 20 ∷ 0 ∷ [] })
@@ -189,4 +192,4 @@ Limits =
 -- The claim
 pub limits : Limits
 unfolding nearest rounded isOpen workingAfter lines numberIn dateIn isCode digits valuedFrom rowsFrom readSheet summed offsetRow offsetAll classLine currencyLines reportOf
-limits = (refl, refl, refl, refl, refl, refl, refl, refl, refl, refl, refl, refl, refl, refl, refl, refl, refl, refl, refl, refl, refl, refl, refl, refl, refl, refl, refl, refl, refl, refl, refl, refl, refl, refl, refl, refl, refl, refl, refl, refl, refl, refl, refl, refl, refl, refl, refl, refl, refl, refl, refl, refl, refl, refl, refl, refl, refl, refl, refl, refl, refl, refl, refl, refl, refl, refl, refl, refl, refl, refl, refl, refl, refl, refl, refl, refl, refl, refl, refl, refl, refl, refl, refl, refl, refl, refl, refl)
+limits = (refl, refl, refl, refl, refl, refl, refl, refl, refl, refl, refl, refl, refl, refl, refl, refl, refl, refl, refl, refl, refl, refl, refl, refl, refl, refl, refl, refl, refl, refl, refl, refl, refl, refl, refl, refl, refl, refl, refl, refl, refl, refl, refl, refl, refl, refl, refl, refl, refl, refl, refl, refl, refl, refl, refl, refl, refl, refl, refl, refl, refl, refl, refl, refl, refl, refl, refl, refl, refl, refl, refl, refl, refl, refl, refl, refl, refl, refl, refl, refl, refl, refl, refl, refl, refl, refl, refl, refl)
