@@ -8,11 +8,11 @@
 --     price with accrued coupon                       22,000,000                   hundred-thousandths of a %
 --     nominal × price with accrued coupon             2,200,000,000,000,000        cents × 100,000
 --     revaluated amount, also with its sign           22,000,000,000               cents
---     days of repo interest                           732                          days
---     days × amount                                   21,960,000,000,000           days × cents
---     days × amount × rate, in size                   4,392,000,000,000,000,000    whole units × 36,000,000,000
---     repo interest, in size                          122,000,000                  whole units
---     mark-to-market, in size                         64,200,000,000               cents
+--     days of repo interest                           734                          days
+--     days × amount                                   22,020,000,000,000           days × cents
+--     days × amount × rate, in size                   4,404,000,000,000,000,000    whole units × 36,000,000,000
+--     repo interest, in size                          122,333,334                  whole units
+--     mark-to-market, in size                         64,233,333,400               cents
 --     margined trades                                 500                          trades
 --     line of a margined trade                        942                          lines
 --     amounts of one security summed, in size         11,000,000,000,000           cents
@@ -21,8 +21,8 @@
 --     factor × position                               220,000,000,000,000,000      whole units × 10,000
 --     margin of a class                               22,000,000,000,000           whole units
 --     initial margin of a currency                    880,000,000,000,000          whole units
---     mark-to-market sum of a currency, in size       32,100,000,000,000           cents
---     total of a currency                             88,032,100,000,000,000       cents
+--     mark-to-market sum of a currency, in size       32,116,666,700,000           cents
+--     total of a currency                             88,032,116,666,700,000       cents
 use Prim.Native.Nat.{ℕ, _+_, _-_, _*_, _≤_, _<_}
 use native.Mathlib.Nat.{le-trans, mul-comm, mul-one, mul-pos, mul-le-mul, mul-le-mul-left, le-mul-of-pos-right}
 use native.Mathlib.Omega.{arith}
@@ -66,25 +66,25 @@ mostWorthProduct = 2_200_000_000_000_000
 abbrev pub mostWorth : Cents
 mostWorth = 22_000_000_000
 
--- Days of repo interest: the 729th of 730 days, and 3 to the next working day
+-- Days of repo interest: 729 of 730 days, and 5 to the next working day
 abbrev pub mostInterestDays : Days
-mostInterestDays = 732
+mostInterestDays = 734
 
--- Days × amount: 732 days × 30,000,000,000 cents
+-- Days × amount: 734 days × 30,000,000,000 cents
 abbrev pub mostDaysAmount : ℕ
-mostDaysAmount = 21_960_000_000_000
+mostDaysAmount = 22_020_000_000_000
 
 -- Days × amount × rate: that × 200,000 ten-thousandths of a percent; below 2 ^ 63
 abbrev pub mostInterestProduct : ℕ
-mostInterestProduct = 4_392_000_000_000_000_000
+mostInterestProduct = 4_404_000_000_000_000_000
 
--- Repo interest, whole units: that / 36,000,000,000
+-- Repo interest, whole units: that / 36,000,000,000, and up to the next
 abbrev pub mostInterest : Whole
-mostInterest = 122_000_000
+mostInterest = 122_333_334
 
--- Mark-to-market, cents: 22,000,000,000 + 30,000,000,000 + 100 × 122,000,000
+-- Mark-to-market, cents: 22,000,000,000 + 30,000,000,000 + 100 × 122,333,334
 abbrev pub mostMark : Cents
-mostMark = 64_200_000_000
+mostMark = 64_233_333_400
 
 -- Margined trades: no more than T rows
 abbrev pub mostTrades : ℕ
@@ -118,13 +118,13 @@ mostMargin = 22_000_000_000_000
 abbrev pub mostInitial : Whole
 mostInitial = 880_000_000_000_000
 
--- Mark-to-market sum of a currency, cents: 500 × 64,200,000,000
+-- Mark-to-market sum of a currency, cents: 500 × 64,233,333,400
 abbrev pub mostMarkSum : Cents
-mostMarkSum = 32_100_000_000_000
+mostMarkSum = 32_116_666_700_000
 
--- Total of a currency, cents: 100 × 880,000,000,000,000 + 32,100,000,000,000
+-- Total of a currency, cents: 100 × 880,000,000,000,000 + 32,116,666,700,000
 abbrev pub mostTotal : Cents
-mostTotal = 88_032_100_000_000_000
+mostTotal = 88_032_116_666_700_000
 
 -- ---- one trade
 
@@ -183,7 +183,7 @@ repo-runs today t e m =
     let h : T (leb (day (t .first)) today && ltb today (lastDay t)) = holds _ (rw (e, margined) at m) in
     search tests
 
--- The interest of a margined repo runs from its first day on, for at most 732 days
+-- The interest of a margined repo runs from its first day on, for at most 734 days
 pub interest-days : (today : Day) (t : TradeRow) → TradeFacts t → t .trade ≡ repo → margined today t ≡ true
     → (day (t .first) ≤ workingAfter today) × (workingAfter today - day (t .first) ≤ mostInterestDays)
 interest-days today t f e m = go (day (t .first)) (lastDay t) (repo-runs today t e m) (f .term e .1)
@@ -218,7 +218,7 @@ pub interest-most : (days : Days) (amount : Cents) (rate : Rate)
     → natAbs (interest days amount rate) ≤ mostInterest
 interest-most days amount rate d a r =
     rounded-at-most (pos (days * amount) *ℤ rate) mostInterest 36_000_000_000 (omega arith)
-    (interest-product-most days amount rate d a r)
+    (le-trans (interest-product-most days amount rate d a r) (omega arith))
 
 -- Interest of a margined trade, in size: whole units
 pub interest-of-most : (today : Day) (t : TradeRow) → TradeFacts t → margined today t ≡ true
@@ -249,7 +249,7 @@ signed-size z sign e = size-product z sign ∙ ap (λ n. natAbs z * n) e ∙ mul
 -- the mark-to-market before its sign. All in cents
 pub record MarkFacts (worth amount : Cents) (due : SignedWhole) (sign : Sign) : Type 0 where
   pub gain : natAbs (pos worth -ℤ pos amount) ≤ 52_000_000_000
-  pub hundredfold : natAbs (pos 100 *ℤ due) ≤ 12_200_000_000
+  pub hundredfold : natAbs (pos 100 *ℤ due) ≤ 12_233_333_400
   pub unsigned : natAbs (pos worth -ℤ pos amount -ℤ pos 100 *ℤ due) ≤ mostMark
   pub mark : natAbs (markToMarket worth amount due sign) ≤ mostMark
 

@@ -1,5 +1,5 @@
--- Laws of the definitions of days. What a day being open means is looked into by `one-of-three` alone: another calendar
--- proves that law again, and callers go by `firstOpen`'s steps and by what is said of `workingAfter`.
+-- Laws of the definitions of days. What a day being open means is not looked into here: `Calendar` has what depends on it, and callers
+-- go by `firstOpen`'s steps and by what is said of `workingAfter`.
 use Prim.Native.Nat.{ℕ, zero, suc, _+_, _-_, _/_, _%_, _≤_, _<_}
 use native.Mathlib.Nat.{le-refl, le-of-lt, eq-or-lt-of-le, not-suc-le-zero, add-zero, add-suc, suc-add}
 use native.Mathlib.Numerals.{add-one}
@@ -16,11 +16,6 @@ use Rattle.paper.specs.Lists.{sum, between}
 use Rattle.paper.proofs.Lists.{both, when-some, every-at, sum-part}
 use Rattle.paper.specs.Days.{leap, yearDays, newYearsFrom, newYears, monthDays, isReal, dayIn, dayOf, weekday, isOpen, firstOpen, workingAfter}
 
--- Of three days on end one is open, so `workingAfter` need look no further than the third
-one-of-three : (d : Day) → isOpen d ≡ false → isOpen (suc d) ≡ false → isOpen (suc (suc d)) ≡ true
-unfolding isOpen
-one-of-three d h k = lt-ltb (weekday (suc (suc d))) 5 (omega (arith, ltb-false (weekday d) 5 h, ltb-false (weekday (suc d)) 5 k))
-
 -- The search's steps: it ends at an open day, and passes one that is not
 pub first-open : (left : Days) (d : Day) → isOpen d ≡ true → firstOpen left d ≡ d
 first-open zero d h = refl
@@ -29,53 +24,46 @@ first-open (suc left) d h = rw (h, firstOpen)
 pub first-shut : (left : Days) (d : Day) → isOpen d ≡ false → firstOpen (suc left) d ≡ firstOpen left (suc d)
 first-shut left d h = rw (h, firstOpen)
 
--- What a search of so many steps from a day finds: no day before that day, none past the last step, and the first open one
-record Found (left : Days) (d f : Day) : Type 0 where
-  from : d ≤ f
-  within : f ≤ d + left
-  earliest : (x : Day) → d ≤ x → x < f → isOpen x ≡ false
+-- What a search of so many steps from a day finds: no day before that day, none past the last step, an open one unless the last
+-- step is reached, and the first such
+pub record Found (left : Days) (d f : Day) : Type 0 where
+  pub from : d ≤ f
+  pub within : f ≤ d + left
+  pub opened : f < d + left → isOpen f ≡ true
+  pub earliest : (x : Day) → d ≤ x → x < f → isOpen x ≡ false
 
-found : (left : Days) (d : Day) → Found left d (firstOpen left d)
-found zero d = record { from = le-refl d; within = omega arith; earliest = λ x p q. absurd (omega arith) }
+pub found : (left : Days) (d : Day) → Found left d (firstOpen left d)
+found zero d = record { from = le-refl d; within = omega arith; opened = λ l. absurd (omega arith); earliest = λ x p q. absurd (omega arith) }
 found (suc left) d = go (isOpen d) refl (found left (suc d))
   where
     go : (open? : Bool) → isOpen d ≡ open? → Found left (suc d) (firstOpen left (suc d))
         → Found (suc left) d (firstOpen (suc left) d)
     go true e r =
         rw (first-open (suc left) d e)
-        (record { from = le-refl d; within = omega arith; earliest = λ x p q. absurd (omega arith) })
+        (record { from = le-refl d; within = omega arith; opened = λ l. e; earliest = λ x p q. absurd (omega arith) })
     go false e r =
         rw (first-shut left d e)
         (record {
           from = omega arith;
           within = omega arith;
+          opened = λ l. r .opened (omega arith);
           earliest = λ x p q. ⊎-elim (λ s. rw (← s) e) (λ l. r .earliest x l q) (eq-or-lt-of-le p);
         })
 
--- The working day after a day is open
-pub working-open : (d : Day) → isOpen (workingAfter d) ≡ true
-unfolding workingAfter
-working-open d = go (isOpen (suc d)) refl (isOpen (suc (suc d))) refl
-  where
-    go : (a : Bool) → isOpen (suc d) ≡ a → (b : Bool) → isOpen (suc (suc d)) ≡ b → isOpen (workingAfter d) ≡ true
-    go true e b k = ap isOpen (first-open 2 (suc d) e) ∙ e
-    go false e true k = ap isOpen (first-shut 1 (suc d) e ∙ first-open 1 (suc (suc d)) k) ∙ k
-    go false e false k = ap isOpen (first-shut 1 (suc d) e ∙ first-shut 0 (suc (suc d)) k) ∙ one-of-three (suc d) e k
-
--- It is after that day
+-- The working day after a day is after it
 pub working-after : (d : Day) → d < workingAfter d
 unfolding workingAfter
-working-after d = found 2 (suc d) .from
+working-after d = found 4 (suc d) .from
 
--- It is at most three days off
-pub working-within : (d : Day) → workingAfter d ≤ d + 3
+-- It is at most five days off
+pub working-within : (d : Day) → workingAfter d ≤ d + 5
 unfolding workingAfter
-working-within d = omega (arith, found 2 (suc d) .within)
+working-within d = omega (arith, found 4 (suc d) .within)
 
 -- No day between the two is open
 pub working-earliest : (d x : Day) → d < x → x < workingAfter d → isOpen x ≡ false
 unfolding workingAfter
-working-earliest d x p q = found 2 (suc d) .earliest x p q
+working-earliest d x p q = found 4 (suc d) .earliest x p q
 
 -- 1 January 2000 was a Saturday
 pub saturday : weekday 0 ≡ 5

@@ -2,6 +2,7 @@ pub mod Lists
 pub mod Rounding
 pub mod Sizes
 pub mod Days
+pub mod Calendar
 pub mod Order
 pub mod Lines
 pub mod Digits

@@ -1,12 +1,12 @@
 -- Days (01, "Days", and "Dates are eight digits, real Gregorian days of 2000 to 2399").
-use Prim.Native.Nat.{ℕ, zero, suc, _+_, _-_, _/_, _%_}
+use Prim.Native.Nat.{ℕ, zero, suc, _+_, _-_, _*_, _/_, _%_}
 use mathlib.Core.Bool.{Bool, true, false, cond, not, _&&_, _||_}
 use mathlib.Core.List.{List, [], _∷_}
 use mathlib.Core.Option.{Option, Option·getD}
 use lib.Dec.{eqb, leb, ltb}
-use lib.ListN.{getD, take}
+use lib.ListN.{length, getD, take}
 use Rattle.paper.specs.Units.{Date, Year, Month, DayOfMonth, Day, Days}
-use Rattle.paper.specs.Lists.{between, sum, given, when}
+use Rattle.paper.specs.Lists.{between, sum, every, only, given, when}
 
 -- Leap years: every fourth, but of the centuries every fourth only
 abbrev pub leap : Year → Bool
@@ -37,13 +37,17 @@ isReal y m d = between 2000 2399 y && ltb d (getD (monthDays (leap y)) m 0)
 abbrev pub dayIn : Year → Month → DayOfMonth → Day
 dayIn y m d = getD newYears (y - 2000) 0 + sum (take m (monthDays (leap y))) + d
 
+-- The same with month and day of the month as they are written, both from 1
+abbrev pub dayOn : Year → ℕ → ℕ → Day
+dayOn y mm dd = dayIn y (mm - 1) (dd - 1)
+
 -- Of a date's eight digits four are the year, two the month and two the day of the month; the last two count from 1
 abbrev pub dayOf : Date → Option Day
 dayOf date =
     let y = date / 10_000 in
     let mm = date / 100 % 100 in
     let dd = date % 100 in
-    when (leb 1 mm && leb 1 dd && isReal y (mm - 1) (dd - 1)) (dayIn y (mm - 1) (dd - 1))
+    when (leb 1 mm && leb 1 dd && isReal y (mm - 1) (dd - 1)) (dayOn y mm dd)
 
 -- Whether a date is a real day of 2000 to 2399
 abbrev pub isDay : Date → Bool
@@ -57,15 +61,57 @@ day date = Option·getD (dayOf date) 0
 abbrev pub weekday : Day → ℕ
 weekday d = (d + 5) % 7
 
--- Open days: neither Saturday nor Sunday. Another calendar changes this definition, and how far `workingAfter` looks
+-- The year of a day: that of the last 1 January of the table that is not after it
+abbrev pub yearOf : Day → Year
+yearOf d = 1999 + length (only (λ newYear. leb newYear d) newYears)
+
+-- Easter by the Gregorian reckoning: the first Sunday after the first full moon of spring, and spring begins on 21 March. The moon
+-- is reckoned, not observed, in the steps from here to `easter`.
+
+-- Where a year stands in the moon's cycle: after 19 years full moons fall on the same dates again
+abbrev pub inCycle : Year → ℕ
+inCycle y = y % 19
+
+-- The days by which left-out leap days make the moon's dates later: of four centuries three leave one out
+abbrev pub leapDaysLeft : Year → Days
+leapDaysLeft y = y / 100 - y / 100 / 4
+
+-- The days by which the moon, a little quicker than its cycle, makes them earlier: eight in 25 centuries
+abbrev pub moonDaysGained : Year → Days
+moonDaysGained y = (8 * (y / 100) + 13) / 25
+
+-- From year to year the full moon is 19 days later, in a round of 30 days that starts on 21 March. 15 is where it stood in a year 0
+abbrev pub inRound : Year → Days
+inRound y = (19 * inCycle y + 15 + leapDaysLeft y - moonDaysGained y) % 30
+
+-- The first full moon of spring, in days after 21 March. The last day of the round is given up, since a moon has 29 days and a half;
+-- and so that no two years of a cycle share their moon, the day before it is given up too in years past the cycle's eleventh
+abbrev pub springMoon : Year → Days
+springMoon y = cond (eqb (inRound y) 29 || eqb (inRound y) 28 && ltb 10 (inCycle y)) (inRound y - 1) (inRound y)
+
+-- The first Sunday after a day
+abbrev pub sundayAfter : Day → Day
+sundayAfter d = suc d + (6 - weekday (suc d))
+
+-- Easter Sunday of a year
+abbrev pub easter : Year → Day
+easter y = sundayAfter (dayOn y 3 21 + springMoon y)
+
+-- The closing days of a year: 1 January, Good Friday, Easter Monday, 1 May, 25 and 26 December. One that falls on a Saturday or a
+-- Sunday has no substitute
+abbrev pub closingDays : Year → List Day
+closingDays y = dayOn y 1 1 ∷ (easter y - 2) ∷ (easter y + 1) ∷ dayOn y 5 1 ∷ dayOn y 12 25 ∷ dayOn y 12 26 ∷ []
+
+-- Open days: neither Saturday nor Sunday, and none of the year's closing days. Another calendar changes this definition, and how far
+-- `workingAfter` looks
 unfoldable pub isOpen : Day → Bool
-isOpen d = ltb (weekday d) 5
+isOpen d = ltb (weekday d) 5 && every (λ closing. not (eqb d closing)) (closingDays (yearOf d))
 
 -- Stepping on from a day until an open one is found, with so many days left to step
 abbrev pub firstOpen : Days → Day → Day
 firstOpen zero d = d
 firstOpen (suc left) d = elim (isOpen d) [ true ↦ d | false ↦ firstOpen left (suc d) ]
 
--- The first working day after a day: at most three days off
+-- The first working day after a day: at most five days off
 unfoldable pub workingAfter : Day → Day
-workingAfter d = firstOpen 2 (suc d)
+workingAfter d = firstOpen 4 (suc d)

@@ -3,6 +3,7 @@ pub mod Lists
 pub mod Signs
 pub mod Rounding
 pub mod Days
+pub mod Calendar
 pub mod Text
 pub mod Rows
 pub mod Currencies
