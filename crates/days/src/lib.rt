@@ -7,7 +7,7 @@ ghost use mathlib.Core.Path.{_≡_};
 ghost use Prim.Native.Nat.{_+_, _*_, _/_, _≤_, _<_};
 ghost use lib.ListN.{take, getD};
 ghost use Rattle.paper.specs.Lists.{sum};
-ghost use Rattle.paper.specs.Days.{leap, newYears, monthDays, isReal, dayIn, dayOf, weekday, isOpen, workingAfter};
+ghost use Rattle.paper.specs.Days.{leap, newYears, monthDays, isReal, dayIn, dayOf, weekday, yearOf, springMoon, easter, isClosing, isOpen, workingAfter};
 ghost use Rattle.days.specs.Dated.{dated};
 
 pub type Date = u64; // eight digits as one number
@@ -120,25 +120,103 @@ pub fn weekday(day: Day) -> DayOfWeek
     (day % 7 + 5) % 7
 }
 
-// Whether a day is a working day: another calendar changes this function, and the days left in `working_after`.
-pub fn is_open(day: Day) -> bool
-    ensures { λ r. ⌜ r ≡ isOpen day ⌝ }
+// The year of a day. No year has more than 366 days, so that the guess is the year or the one before it.
+fn year_of(years: &[Day; 400], day: Day) -> Year
+    requires { ⌜ now years ≡ newYears ⌝ }
+    requires { ⌜ day < 146_400 ⌝ }
+    ensures { λ r. ⌜ r ≡ yearOf day ⌝ }
 {
-    weekday(day) < 5
+    let guess = day / 366; // years from 2000
+    if guess == 399 {
+        return 2399;
+    }
+    if day < years[(guess + 1) as usize] {
+        2000 + guess
+    } else {
+        2001 + guess
+    }
 }
 
-// The first working day after a day. The third day is open where the first two are not, so it is not tested.
-pub fn working_after(day: Day) -> Day
+// The first full moon of spring, in days after 21 March.
+fn spring_moon(y: Year) -> Days
+    requires { ⌜ y ≤ 2399 ⌝ }
+    ensures { λ r. ⌜ r ≡ springMoon y ⌝ }
+{
+    let cycle = y % 19; // years
+    let century = y / 100; // hundreds of years
+    let later = century - century / 4; // days
+    let earlier = (8 * century + 13) / 25; // days
+    let round: Days = (19 * cycle + 15 + later - earlier) % 30;
+    if round == 29 {
+        return 28;
+    }
+    if round != 28 {
+        return round;
+    }
+    if 10 < cycle { 27 } else { 28 }
+}
+
+// Easter Sunday: the first Sunday after that moon.
+fn easter(years: &[Day; 400], y: Year) -> Day
+    requires { ⌜ now years ≡ newYears ⌝ }
+    requires { ⌜ (2000 ≤ y) × (y ≤ 2399) ⌝ }
+    ensures { λ r. ⌜ r ≡ easter y ⌝ }
+{
+    let moon = day_in(years, y, 2, 20) + spring_moon(y); // day
+    let next: Day = moon + 1;
+    next + (6 - weekday(next))
+}
+
+// Whether a day is one of a year's closing days.
+fn is_closing(years: &[Day; 400], y: Year, day: Day) -> bool
+    requires { ⌜ now years ≡ newYears ⌝ }
+    requires { ⌜ (2000 ≤ y) × (y ≤ 2399) ⌝ }
+    ensures { λ r. ⌜ r ≡ isClosing y day ⌝ }
+{
+    let sunday: Day = easter(years, y);
+    if day == day_in(years, y, 0, 0) {
+        return true;
+    }
+    if day == sunday - 2 {
+        return true;
+    }
+    if day == sunday + 1 {
+        return true;
+    }
+    if day == day_in(years, y, 4, 0) {
+        return true;
+    }
+    if day == day_in(years, y, 11, 24) {
+        return true;
+    }
+    day == day_in(years, y, 11, 25)
+}
+
+// Whether a day is a working day: another calendar changes this function, and the days left in `working_after`.
+pub fn is_open(years: &[Day; 400], day: Day) -> bool
+    requires { ⌜ now years ≡ newYears ⌝ }
+    requires { ⌜ day < 146_400 ⌝ }
+    ensures { λ r. ⌜ r ≡ isOpen day ⌝ }
+{
+    if 4 < weekday(day) {
+        return false;
+    }
+    !is_closing(years, year_of(years, day), day)
+}
+
+// The first working day after a day. The fifth day is open where the first four are not, so it is not tested.
+pub fn working_after(years: &[Day; 400], day: Day) -> Day
+    requires { ⌜ now years ≡ newYears ⌝ }
     requires { ⌜ day < 146_097 ⌝ }
     ensures { λ r. ⌜ r ≡ workingAfter day ⌝ }
 {
     let mut d: Day = day + 1;
-    let mut left: Days = 2; // days to step
+    let mut left: Days = 4; // days to step
     let first: Day = loop {
         if left == 0 {
             break d;
         }
-        if is_open(d) {
+        if is_open(years, d) {
             break d;
         }
         d += 1;

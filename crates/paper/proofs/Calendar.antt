@@ -7,15 +7,15 @@ use mathlib.Core.Bool.{Bool, true, false, cond, not, _&&_, _||_}
 use mathlib.Core.List.{List, [], _∷_}
 use mathlib.Core.Logic.{_≢_, ⊎-elim}
 use mathlib.Core.Path.{_≡_, refl, sym, ap, subst, subst⁻¹, _∙_}
-use borrow.Author.Tests.{le-leb, lt-leb, lt-ltb, ltb-true, ltb-false, eqb-true, eqb-false, ne-eqb}
+use borrow.Author.Tests.{le-leb, lt-leb, lt-ltb, ltb-true, ltb-false, eqb-true, eqb-false, ne-eqb, not-false}
 use lib.Dec.{eqb, leb, ltb}
 use lib.ListN.{length, getD, take}
 use Rattle.paper.specs.Units.{Year, Day, Days}
-use Rattle.paper.specs.Lists.{sum, every, only}
-use Rattle.paper.specs.Days.{leap, yearDays, newYearsFrom, newYears, monthDays, dayOn, weekday, yearOf, inCycle, inRound, springMoon, sundayAfter, easter, closingDays, isOpen, firstOpen, workingAfter}
+use Rattle.paper.specs.Lists.{sum, only, firstThat, given}
+use Rattle.paper.specs.Days.{leap, yearDays, newYearsFrom, newYears, monthDays, dayOn, weekday, yearOf, inCycle, inRound, springMoon, sundayAfter, easter, closingDays, isClosing, isOpen, firstOpen, workingAfter}
 use Rattle.paper.specs.Calendar.{Working}
-use Rattle.paper.proofs.Lists.{never, only-kept, only-left, length-only, every-step, Each, nil, cons, each-map, each-every}
-use Rattle.paper.proofs.Days.{new-years-step, Found, found, working-after, working-within, working-earliest}
+use Rattle.paper.proofs.Lists.{never, only-kept, only-left, length-only, Each, nil, cons}
+use Rattle.paper.proofs.Days.{new-years-step, day-in-below, Found, found, working-after, working-within, working-earliest}
 
 -- ---- the year of a day
 
@@ -70,7 +70,7 @@ year-between d = go (counted d newYears) (first-counted 399 2000 d) (length-only
 -- ---- Easter
 
 -- The first full moon of spring is at most 28 days after its beginning
-moon-within : (y : Year) → springMoon y ≤ 28
+pub moon-within : (y : Year) → springMoon y ≤ 28
 moon-within y = go (inRound y) (inCycle y) (omega arith)
   where
     go : (round cycle : ℕ) → round < 30 → cond (eqb round 29 || eqb round 28 && ltb 10 cycle) (round - 1) round ≤ 28
@@ -82,8 +82,18 @@ moon-within y = go (inRound y) (inCycle y) (omega arith)
         last false e false = omega (arith, eqb-false round 29 e)
 
 -- The first Sunday after a day is at most a week after it
-sunday-within : (d : Day) → (d < sundayAfter d) × (sundayAfter d ≤ d + 7)
+pub sunday-within : (d : Day) → (d < sundayAfter d) × (sundayAfter d ≤ d + 7)
 sunday-within d = omega arith
+
+-- Easter is below the days of the 400 years, and what is reckoned with is few days past them
+pub easter-below : (y : Year) → (2000 ≤ y) × (y ≤ 2399) → easter y < 146_132
+easter-below y b =
+    let march = day-in-below y 2 20 (record { low = b .0; high = b .1; in-month = omega arith }) in
+    let moon = moon-within y in
+    go (dayOn y 3 21) (springMoon y) march moon
+  where
+    go : (march moon : ℕ) → march < 146_097 → moon ≤ 28 → sundayAfter (march + moon) < 146_132
+    go march moon h k = omega (arith, sunday-within (march + moon))
 
 -- ---- the closing days of a year whose 1 January is day `n`, whose February has `f` days, and whose Easter is day `e`
 
@@ -107,22 +117,23 @@ frame y = go (getD newYears (y - 2000) 0) (leap y) (springMoon y) (moon-within y
     go n true moon h = record { february = omega arith; easter = omega (arith, sunday-within (on n 29 2 20 + moon)) }
     go n false moon h = record { february = omega arith; easter = omega (arith, sunday-within (on n 28 2 20 + moon)) }
 
--- The test that a closing day fails: to be none of some days
-abbrev none : List Day → Day → Bool
-none days d = every (λ closing. not (eqb d closing)) days
+-- Whether a day is one of some
+abbrev pub oneOf : List Day → Day → Bool
+oneOf days d = given (firstThat (eqb d) days)
 
--- A day that is one of them is the first, or one of the rest
-one-of : {X : Type 0} (d : Day) (days : List Day) → none days d ≡ false → Each (λ closing. d ≡ closing → X) days → X
-one-of d [] h nil = never (sym h)
+-- One of them is the first, or one of the rest
+one-of : {X : Type 0} (d : Day) (days : List Day) → oneOf days d ≡ true → Each (λ closing. d ≡ closing → X) days → X
+one-of d [] h nil = never h
 one-of {X} d (c ∷ days) h (cons x xs) = go (eqb d c) refl (λ k. one-of d days k xs)
   where
-    go : (b : Bool) → eqb d c ≡ b → (none days d ≡ false → X) → X
+    go : (b : Bool) → eqb d c ≡ b → (oneOf days d ≡ true → X) → X
     go true e rest = x (eqb-true d c e)
-    go false e rest = rest (rw (e, every) at h)
+    go false e rest = rest (rw (e, firstThat) at h)
 
 -- A day other than each of them is none
-unlike : (d : Day) (days : List Day) → Each (λ closing. d ≢ closing) days → none days d ≡ true
-unlike d days each = each-every (λ closing. not (eqb d closing)) (each-map (λ c h. ap not (ne-eqb d c h)) each)
+unlike : (d : Day) (days : List Day) → Each (λ closing. d ≢ closing) days → oneOf days d ≡ false
+unlike d [] nil = refl
+unlike d (c ∷ days) (cons x xs) = rw (ne-eqb d c x, firstThat) (unlike d days xs)
 
 -- Six facts, each of a day
 six : {P : Day → Type 0} {a b c d e f : Day} → P a × P b × P c × P d × P e × P f → Each P (a ∷ b ∷ c ∷ d ∷ e ∷ f ∷ [])
@@ -130,7 +141,7 @@ six p = cons (p .0) (cons (p .1) (cons (p .2) (cons (p .3) (cons (p .4) (cons (p
 
 -- A closing day of its year
 abbrev Closing : Day → Type 0
-Closing d = none (closingDays (yearOf d)) d ≡ false
+Closing d = isClosing (yearOf d) d ≡ true
 
 -- What a day has to be other than, and so a day of that year is no closing day
 abbrev Unlike : Day → Days → Day → Day → Type 0
@@ -145,7 +156,7 @@ not-closing y between d low high u c =
     let next : y - 2000 + 1 < 400 → d < getD newYears (y - 2000 + 1) 0 =
     λ l. before (getD newYears (y - 2000) 0) (getD newYears (y - 2000 + 1) 0) (leap y) high (rw k at (new-years-step (y - 2000) l)) in
     let same : yearOf d ≡ y = year-at d (y - 2000) (omega arith) low next ∙ k in
-    never (sym (subst (λ (x : Year). none (closingDays x) d ≡ false) same c) ∙ unlike d (closingDays y) (six u))
+    never (sym (unlike d (closingDays y) (six u)) ∙ subst (λ (x : Year). isClosing x d ≡ true) same c)
   where
     before : (n next : Day) (isLeap : Bool) → d < on n (cond isLeap 29 28) 11 31 → next ≡ n + cond isLeap 366 365 → d < next
     before n next true h e = omega arith
@@ -158,7 +169,7 @@ crowded p z q h i j k cp cz cq =
     go (getD newYears (y - 2000) 0) (cond (leap y) 29 28) (easter y) (frame y) (not-closing y (year-between z)) cz
   where
     go : (n : Day) (f : Days) (e : Day) → Frame n f e → ((d : Day) → n ≤ d → d < on n f 11 31 → Unlike n f e d → Closing d → ⊥)
-        → none (closings n f e) z ≡ false → ⊥
+        → oneOf (closings n f e) z ≡ true → ⊥
     go n f e r shut c =
         one-of z (closings n f e) c
         (six (
@@ -175,7 +186,7 @@ crowded p z q h i j k cp cz cq =
 -- A weekday that is not open is a closing day
 closing : (d : Day) → isOpen d ≡ false → weekday d < 5 → Closing d
 unfolding isOpen
-closing d h l = rw (lt-ltb (weekday d) 5 l) at h
+closing d h l = not-false _ (rw (lt-ltb (weekday d) 5 l) at h)
 
 -- So three of them, as far apart as above, are not all shut
 three-shut : (p z q : Day) → isOpen p ≡ false → isOpen z ≡ false → isOpen q ≡ false

@@ -6,7 +6,7 @@ use mathlib.Core.Option.{Option, Option·getD}
 use lib.Dec.{eqb, leb, ltb}
 use lib.ListN.{length, getD, take}
 use Rattle.paper.specs.Units.{Date, Year, Month, DayOfMonth, Day, Days}
-use Rattle.paper.specs.Lists.{between, sum, every, only, given, when}
+use Rattle.paper.specs.Lists.{between, sum, only, firstThat, given, when}
 
 -- Leap years: every fourth, but of the centuries every fourth only
 abbrev pub leap : Year → Bool
@@ -102,10 +102,14 @@ easter y = sundayAfter (dayOn y 3 21 + springMoon y)
 abbrev pub closingDays : Year → List Day
 closingDays y = dayOn y 1 1 ∷ (easter y - 2) ∷ (easter y + 1) ∷ dayOn y 5 1 ∷ dayOn y 12 25 ∷ dayOn y 12 26 ∷ []
 
--- Open days: neither Saturday nor Sunday, and none of the year's closing days. Another calendar changes this definition, and how far
+-- Whether a day is one of a year's closing days
+abbrev pub isClosing : Year → Day → Bool
+isClosing y d = given (firstThat (eqb d) (closingDays y))
+
+-- Open days: neither Saturday nor Sunday, and no closing day of their year. Another calendar changes this definition, and how far
 -- `workingAfter` looks
 unfoldable pub isOpen : Day → Bool
-isOpen d = ltb (weekday d) 5 && every (λ closing. not (eqb d closing)) (closingDays (yearOf d))
+isOpen d = ltb (weekday d) 5 && not (isClosing (yearOf d) d)
 
 -- Stepping on from a day until an open one is found, with so many days left to step
 abbrev pub firstOpen : Days → Day → Day

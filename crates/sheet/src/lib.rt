@@ -219,7 +219,7 @@ fn tables(s: &[u8], years: &[Day; 400], from: Place, end: Place, date: DateRow) 
     let periods = periods_of(rows);
     let previous = periods.previous;
     let next = periods.next;
-    let working = days::working_after(date.day);
+    let working = days::working_after(years, date.day);
     let ts = trades::trade_section(
         s,
         years,

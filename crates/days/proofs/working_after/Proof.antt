@@ -21,10 +21,10 @@ passed zero d l h = absurd (not-suc-le-zero l)
 passed (suc left) d l h = rw (add-one, sub-one) (first-shut left d h)
 
 abbrev Inv-loop : tie.InvT-loop
-Inv-loop day d₀ left₀ d left = (d + left ≤ day + 3) × (workingAfter day ≡ firstOpen left d)
+Inv-loop years day d₀ left₀ d left = (d + left ≤ day + 5) × (workingAfter day ≡ firstOpen left d)
 
 abbrev μ-loop : tie.MeasureT-loop
-μ-loop day d₀ left₀ d left = left
+μ-loop years day d₀ left₀ d left = left
 
 add-d : tie.Need-add-d Inv-loop μ-loop
 add-d c = omega arith
@@ -33,7 +33,7 @@ loop-holds : tie.Need-loop-holds Inv-loop μ-loop
 unfolding workingAfter
 loop-holds c =
     let next : suc (c .args .day) ≡ c .args .day + 1 = omega arith in
-    (omega arith, ap (firstOpen 2) next)
+    (omega arith, ap (firstOpen 4) next)
 
 is-open-requires : tie.Need-is-open-requires Inv-loop μ-loop
 is-open-requires c κs = search needs

@@ -209,7 +209,7 @@ working-after-requires c κs =
     let p = e .before .before in
     let a = p .before .before .before in
     let b = a .before .before in
-    b .pre .1 .1
+    (b .pre .0 .3, b .pre .1 .1)
 
 trade-section-requires : tie.Need-trade-section-requires
 trade-section-requires c κs =

@@ -1,0 +1,66 @@
+-- `days::easter` meets its contract: its steps are the paper's, and each sum is of a day of the 400 years and few days.
+use Prim.Native.Nat.{ℕ, suc, _+_, _-_, _≤_, _<_}
+use native.Mathlib.Numerals.{add-one}
+use native.Mathlib.Omega.{arith}
+use mathlib.Core.Path.{_≡_, refl, sym, ap, subst, subst⁻¹, _∙_}
+use borrow.Author.Needs.{needs}
+use Rattle.paper.specs.Units.{Day, Days}
+use Rattle.paper.specs.Days.{dayIn, springMoon, sundayAfter, weekday}
+use Rattle.paper.proofs.Days.{Real, real, day-in-below}
+use Rattle.paper.proofs.Calendar.{moon-within}
+use Rattle.days.proofs.Years.{real-day}
+use Rattle.days.proofs.easter.Statement.{statement}
+use Rattle.days.proofs.easter.Tie as tie
+
+-- The days as the code counts them are the paper's
+sunday : (march moon from : ℕ) (spring : Day) (moon' : Days) → march ≡ spring → moon ≡ moon' → from ≡ weekday (march + moon + 1)
+    → march + moon + 1 + (6 - from) ≡ sundayAfter (spring + moon')
+sunday march moon from spring moon' p q r = rw (r, p, q, add-one) refl
+
+day-in-requires : tie.Need-day-in-requires
+day-in-requires c κs = (c .pre .0, real-day (c .args .y) (c .pre .1) 2 20 refl)
+
+spring-moon-requires : tie.Need-spring-moon-requires
+spring-moon-requires c κs = search needs
+
+-- The moon's day is one of the 400 years', or few days behind them
+moon-below : (c : tie.After-spring-moon) → c .before .day-in .result + c .spring-moon .result < 146_125
+moon-below c =
+    let s = c .before .before in
+    let y = s .args .y in
+    let march = subst⁻¹ (λ (d : Day). d < 146_097) (c .before .day-in .ensures) (day-in-below y 2 20 (real y 2 20 (real-day y (s .pre .1) 2 20 refl))) in
+    let moon = subst⁻¹ (λ (d : Days). d ≤ 28) (c .spring-moon .ensures) (moon-within y) in
+    omega arith
+
+add-moon : tie.Need-add-moon
+add-moon c = omega (arith, moon-below c)
+
+add-next : tie.Need-add-next
+add-next c = omega (arith, moon-below c)
+
+weekday-requires : tie.Need-weekday-requires
+weekday-requires c κs = search needs
+
+sub-result : tie.Need-sub-result
+sub-result c = search needs
+
+add-result : tie.Need-add-result
+add-result c = omega (arith, moon-below (c .before))
+
+returns : tie.Need-returns
+returns c =
+    let y = c .before .before .before .args .y in
+    sunday _ _ _ (dayIn y 2 20) (springMoon y) (c .before .before .day-in .ensures) (c .before .spring-moon .ensures) (c .weekday .ensures)
+
+pub easter-spec : {M : Type 1} → statement M
+easter-spec =
+    tie.close
+    (tie.spec
+    day-in-requires
+    spring-moon-requires
+    add-moon
+    add-next
+    weekday-requires
+    sub-result
+    add-result
+    returns)
