@@ -4,6 +4,7 @@
 //! The others break one rule at a chosen line, or two, or are damaged without a plan. Where it is certain what the
 //! answer must be, the case says so.
 
+mod calendar;
 mod chance;
 mod damage;
 mod draft;

@@ -13,8 +13,10 @@ struct Seen(BTreeMap<String, u64>);
 
 impl Seen {
     fn note(&mut self, what: &str, is: bool) {
-        let count = self.0.entry(what.to_string()).or_default();
-        *count += is as u64;
+        match self.0.get_mut(what) {
+            Some(count) => *count += is as u64,
+            None => drop(self.0.insert(what.to_string(), is as u64)),
+        }
     }
 }
 
@@ -56,6 +58,9 @@ fn the_generator_reaches_everything() {
             let (refusal, line) = (answer / 65_536, answer % 65_536);
             let (first, last) = lines.entry(refusal).or_insert((line, line));
             (*first, *last) = (line.min(*first), line.max(*last));
+            if refusal == 12 {
+                outside(&case.sheet, line as usize, &mut seen);
+            }
             continue;
         }
         let mut tables = Tables::EMPTY;
@@ -145,6 +150,63 @@ fn figures(tables: &Tables, seen: &mut Seen) {
     seen.note("500 margined trades", tables.trade_count == 500);
 }
 
+/// The day that a field names.
+fn day(text: &str) -> u32 {
+    days::day(text.as_bytes().try_into().expect("eight digits")).expect("a date")
+}
+
+/// The first day after that is neither Saturday nor Sunday, be it closed or not; day 0 was a Saturday.
+fn weekday_after(day: u32) -> u32 {
+    (day + 1..).find(|day| day % 7 > 1).expect("days go on")
+}
+
+/// A trade's accrual date outside its coupon period, on a line before which every line is good.
+fn outside(sheet: &[u8], line: usize, seen: &mut Seen) {
+    let sheet = String::from_utf8_lossy(sheet);
+    let rows: Vec<Vec<&str>> = sheet.lines().take(line).map(|line| line.split(';').collect()).collect();
+    let calculation = day(rows[1][1]);
+    let trade = &rows[line - 1];
+    let security = rows.iter().find(|row| row[0] == "S" && row[1] == trade[3]).expect("the trade's security");
+    let period = day(security[8])..day(security[9]);
+    let working = days::working_day_after(calculation);
+    let only_closing = trade[1] == "R" && period.contains(&weekday_after(calculation));
+    seen.note("refused by a closing day alone, coupon on the working day", only_closing && period.end == working);
+    seen.note("refused by a closing day alone, coupon before the working day", only_closing && period.end < working);
+}
+
+/// Closing days that are the same date each year.
+const FIXED: [(&str, &str); 4] =
+    [("1 January", "0101"), ("1 May", "0501"), ("25 December", "1225"), ("26 December", "1226")];
+
+/// What is stepped over from the calculation date to the first working day after it.
+fn stepped_over(date: &str, seen: &mut Seen) {
+    let year: u32 = date[..4].parse().expect("a year");
+    let calculation = day(date);
+    let working = days::working_day_after(calculation);
+    let between = calculation + 1..working;
+    let years = [year, (year + 1).min(2_399)]; // the next one for its 1 January
+    let mut fixed = Vec::new();
+    for (name, month_and_day) in FIXED {
+        for closing in years.map(|year| day(&format!("{year}{month_and_day}"))) {
+            let on_weekend = closing % 7 < 2;
+            seen.note(&format!("{name} stepped over on a weekday"), !on_weekend && between.contains(&closing));
+            let no_substitute = (calculation..working).contains(&closing) && working == weekday_after(closing);
+            seen.note(&format!("{name} on a weekend, and then an open Monday"), on_weekend && no_substitute);
+            fixed.push(closing);
+        }
+    }
+    let movable = |weekday: u32| between.clone().any(|day| day % 7 == weekday && !fixed.contains(&day));
+    let (good_friday, easter_monday) = (movable(6), movable(2));
+    seen.note("Good Friday stepped over", good_friday);
+    seen.note("Easter Monday stepped over", easter_monday);
+    let closed = calculation % 7 > 1 && days::working_day_after(calculation - 1) != calculation;
+    seen.note("calculation on a closing day that is a weekday", closed);
+    seen.note("calculation on Maundy Thursday", good_friday && easter_monday && working == calculation + 5);
+    for off in 1..=5 {
+        seen.note(&format!("the first working day as day {off} after calculation"), working == calculation + off);
+    }
+}
+
 /// Dates and ranges, from the rows as they are written.
 fn text(sheet: &[u8], seen: &mut Seen, ranges: &mut BTreeMap<String, (i64, i64)>) {
     let mut spread = |field: String, value: i64| {
@@ -153,7 +215,6 @@ fn text(sheet: &[u8], seen: &mut Seen, ranges: &mut BTreeMap<String, (i64, i64)>
     };
     let sheet = std::str::from_utf8(sheet).expect("an accepted sheet is plain text");
     let rows: Vec<Vec<&str>> = sheet.lines().skip(1).map(|line| line.split(';').collect()).collect();
-    let day = |text: &str| days::day(text.as_bytes().try_into().expect("eight digits")).expect("a date");
     let calculation = day(rows[0][1]);
     let working = days::working_day_after(calculation);
     for weekday in 0..7 {
@@ -170,6 +231,8 @@ fn text(sheet: &[u8], seen: &mut Seen, ranges: &mut BTreeMap<String, (i64, i64)>
         .filter(|row| row[0] == "C" && !row[3].is_empty())
         .map(|row| (row[2], row[3].parse().expect("a border")))
         .collect();
+    let mut previous = BTreeMap::new(); // coupon date by code
+    let mut margined_repo = false;
     for row in &rows[1..] {
         for (place, field) in row.iter().enumerate().skip(1) {
             if let Ok(value) = field.parse() {
@@ -177,6 +240,7 @@ fn text(sheet: &[u8], seen: &mut Seen, ranges: &mut BTreeMap<String, (i64, i64)>
             }
         }
         if row[0] == "S" {
+            previous.insert(row[1], day(row[8]));
             let length = day(row[9]) - day(row[8]);
             seen.note("a coupon period of a day", length == 1);
             seen.note("a coupon period of 400 days", length == 400);
@@ -201,12 +265,23 @@ fn text(sheet: &[u8], seen: &mut Seen, ranges: &mut BTreeMap<String, (i64, i64)>
             seen.note("a repo from the day after", first == calculation + 1);
             seen.note("a repo to the calculation date", last == calculation);
             seen.note("a repo to the day after", last == calculation + 1 && first <= calculation);
-            let ends_before = first <= calculation && calculation < last && last < working;
-            seen.note("a margined repo that ends before the working day", ends_before);
+            let margined = first <= calculation && calculation < last;
+            margined_repo |= margined;
+            seen.note("a margined repo that ends before the working day", margined && last < working);
+            let coupon = previous[row[3]];
+            let only_closing = margined && weekday_after(calculation) < coupon;
+            seen.note("accepted by a closing day alone, coupon on the working day", only_closing && coupon == working);
+            seen.note(
+                "accepted by a closing day alone, coupon before the working day",
+                only_closing && coupon < working,
+            );
             seen.note("a repo of a day", last - first == 1);
             seen.note("a repo of 730 days", last - first == 730);
-            seen.note("a margined repo of 730 days, accrued to its end", first + 732 == working && last == first + 730);
+            seen.note("a margined repo with interest of 734 days", margined && first + 734 == working);
             seen.note("a rate of 0", row[8] == "0");
         }
+    }
+    if margined_repo {
+        stepped_over(rows[0][1], seen);
     }
 }

@@ -1,14 +1,15 @@
 //! One rule broken in a draft that is else valid: the refusals that the numbers decide, 7 to 12. Each says what must
 //! come of it. Rows are judged by the rows above them, so nothing on a later line can change that.
 
+use super::calendar::working_day;
 use super::chance::Chance;
 use super::draft::{Draft, OffsetRow, SecurityRow, TradeRow, LAST_CALCULATION, LAST_DAY};
-use super::valid::{working_day, Size};
+use super::valid::Size;
 use super::Aim;
 
 type Break = fn(&mut Chance, &mut Draft) -> Option<Aim>;
 
-const BREAKS: [Break; 23] = [
+const BREAKS: [Break; 26] = [
     calculation_too_late,
     coupon_dates,
     coupon_dates,
@@ -32,6 +33,9 @@ const BREAKS: [Break; 23] = [
     no_class_for_security,
     accrual_outside,
     accrual_outside,
+    coupon_over_closed_days,
+    coupon_over_closed_days,
+    coupon_over_closed_days,
 ];
 
 /// A size for such a draft: any, or one with a full table, so that one more row is one too many.
@@ -258,19 +262,45 @@ fn accrual_outside(chance: &mut Chance, draft: &mut Draft) -> Option<Aim> {
     let (at, _) = row(chance, &draft.trades, 0)?;
     let working = working_day(draft.calculation);
     let accrual = if draft.trades[at].repo { working } else { draft.trades[at].first };
-    let security = draft.securities.iter_mut().find(|row| row.code == draft.trades[at].code)?;
+    let security = security_of(draft, at)?;
     let length = security.next - security.previous;
     let previous = match chance.below(3) {
         0 => accrual - length,
         1 => accrual + 1,
         _ => chance.edgy(0, LAST_DAY - length),
     };
-    if previous < 0 || previous + length > LAST_DAY {
-        return None;
-    }
-    (security.previous, security.next) = (previous, previous + length);
+    move_period(security, previous)?;
     // Where no trade falls out, the draft stays valid, with another coupon period.
     first_outside(draft).map(|line| Aim::Refused(12, line))
+}
+
+/// A coupon period that ends after calculation but not after the working day, where closed days lie between.
+fn coupon_over_closed_days(chance: &mut Chance, draft: &mut Draft) -> Option<Aim> {
+    let (at, _) = row(chance, &draft.trades, 0)?;
+    let (tomorrow, working) = (draft.calculation + 1, working_day(draft.calculation));
+    if working == tomorrow {
+        return None;
+    }
+    let next = chance.between(tomorrow, working);
+    let security = security_of(draft, at)?;
+    move_period(security, next - (security.next - security.previous))?;
+    first_outside(draft).map(|line| Aim::Refused(12, line))
+}
+
+/// The security that the trade of that place names.
+fn security_of(draft: &mut Draft, trade: usize) -> Option<&mut SecurityRow> {
+    let code = draft.trades[trade].code;
+    draft.securities.iter_mut().find(|row| row.code == code)
+}
+
+/// The coupon period as long as it was, from another day on, if the calendar has it.
+fn move_period(security: &mut SecurityRow, previous: i64) -> Option<()> {
+    let next = previous + security.next - security.previous;
+    if previous < 0 || next > LAST_DAY {
+        return None;
+    }
+    (security.previous, security.next) = (previous, next);
+    Some(())
 }
 
 /// The line of the first margined trade with its accrual date outside the coupon period.

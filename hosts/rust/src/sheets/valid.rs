@@ -1,6 +1,7 @@
 //! Drafts that obey every rule. Values lean to the ends of their ranges and to rounding ties, and dates to the places
 //! where selection, working days and coupon periods turn.
 
+use super::calendar::{about_closing_day, working_day};
 use super::chance::Chance;
 use super::draft::{ClassRow, Draft, OffsetRow, SecurityRow, TradeRow, LAST_CALCULATION, LAST_DAY};
 
@@ -55,9 +56,9 @@ pub fn draft(chance: &mut Chance, size: &Size) -> Draft {
     Draft { calculation, classes, offsets, securities, trades }
 }
 
-/// Leap days, year ends, the ends of the calendar, every day of the week.
+/// Closing days, leap days, year ends, the ends of the calendar, every day of the week.
 fn calculation(chance: &mut Chance) -> i64 {
-    match chance.below(10) {
+    match chance.below(15) {
         0 => chance.between(0, 3),
         1 => chance.between(LAST_CALCULATION - 3, LAST_CALCULATION),
         2 => {
@@ -71,16 +72,8 @@ fn calculation(chance: &mut Chance) -> i64 {
             (year * 146_097 / 400 + chance.between(-3, 3)).min(LAST_CALCULATION)
         }
         4 => 7 * chance.between(0, LAST_CALCULATION / 7 - 1) + chance.between(5, 8).min(7), // Thursday to Saturday
+        5..=9 => about_closing_day(chance),
         _ => chance.between(0, LAST_CALCULATION),
-    }
-}
-
-/// The first day after that is no Saturday (0 in the week) and no Sunday (1).
-pub fn working_day(calculation: i64) -> i64 {
-    match calculation % 7 {
-        6 => calculation + 3,
-        0 => calculation + 2,
-        _ => calculation + 1,
     }
 }
 
@@ -250,7 +243,8 @@ fn worth(chance: &mut Chance, long: bool) -> (i64, i64, i64) {
     (price, coupon, payments)
 }
 
-/// Previous and next coupon date: mostly about the first working day after calculation, at its ends or half way.
+/// Previous and next coupon date: mostly about the first working day after calculation, at its ends or half way, or
+/// begun on one of the closed days before it.
 fn coupon_period(chance: &mut Chance, calculation: i64, about: bool) -> (i64, i64) {
     let length = match chance.below(5) {
         0 => *chance.pick(&[1, 2, 399, 400]),
@@ -258,13 +252,15 @@ fn coupon_period(chance: &mut Chance, calculation: i64, about: bool) -> (i64, i6
         2 => 2 * chance.between(1, 200),
         _ => chance.between(1, 400),
     };
-    let run = match chance.below(5) {
+    let working = working_day(calculation);
+    let run = match chance.below(6) {
         0 => 0,
         1 => length - 1,
         2 | 3 if length % 2 == 0 => length / 2,
+        4 => chance.between(0, working - calculation - 1).min(length - 1),
         _ => chance.below(length as u64) as i64,
     };
-    let mark = if about || !chance.one_in(6) { working_day(calculation) } else { chance.edgy(0, LAST_DAY) };
+    let mark = if about || !chance.one_in(6) { working } else { chance.edgy(0, LAST_DAY) };
     let previous = (mark - run).clamp(0, LAST_DAY - 1);
     (previous, (previous + length).min(LAST_DAY))
 }
