@@ -10,7 +10,7 @@ use mathlib.Core.Path.{_≡_, refl, sym, ap, subst, subst⁻¹, _∙_}
 use borrow.Author.Tests.{le-leb, lt-leb, lt-ltb, ltb-true, ltb-false, eqb-true, eqb-false, ne-eqb, not-false}
 use lib.Dec.{eqb, leb, ltb}
 use lib.ListN.{length, getD, take}
-use Rattle.paper.specs.Units.{Year, Day, Days}
+use Rattle.paper.specs.Units.{Year, Month, DayOfMonth, Day, Days}
 use Rattle.paper.specs.Lists.{sum, only, firstThat, given}
 use Rattle.paper.specs.Days.{leap, yearDays, newYearsFrom, newYears, monthDays, dayOn, weekday, yearOf, inCycle, inRound, springMoon, sundayAfter, easter, closingDays, isClosing, isOpen, firstOpen, workingAfter}
 use Rattle.paper.specs.Calendar.{Working}
@@ -85,7 +85,7 @@ moon-within y = go (inRound y) (inCycle y) (omega arith)
 pub sunday-within : (d : Day) → (d < sundayAfter d) × (sundayAfter d ≤ d + 7)
 sunday-within d = omega arith
 
--- Easter is below the days of the 400 years, and what is reckoned with is few days past them
+-- Easter is a day of the 400 years or few days past them, by what bounds its parts
 pub easter-below : (y : Year) → (2000 ≤ y) × (y ≤ 2399) → easter y < 146_132
 easter-below y b =
     let march = day-in-below y 2 20 (record { low = b .0; high = b .1; in-month = omega arith }) in
@@ -95,27 +95,26 @@ easter-below y b =
     go : (march moon : ℕ) → march < 146_097 → moon ≤ 28 → sundayAfter (march + moon) < 146_132
     go march moon h k = omega (arith, sunday-within (march + moon))
 
--- ---- the closing days of a year whose 1 January is day `n`, whose February has `f` days, and whose Easter is day `e`
+-- ---- the closing days of a year: day `n` is its 1 January and day `e` its Easter
 
--- A day of that year by the months before its own
-abbrev on : Day → Days → ℕ → Days → Day
-on n f month d = n + sum (take month (31 ∷ f ∷ 31 ∷ 30 ∷ 31 ∷ 30 ∷ 31 ∷ 31 ∷ 30 ∷ 31 ∷ 30 ∷ 31 ∷ [])) + d
+-- A day of that year
+abbrev on : Day → Bool → Month → DayOfMonth → Day
+on n isLeap month d = n + sum (take month (monthDays isLeap)) + d
 
-abbrev closings : Day → Days → Day → List Day
-closings n f e = on n f 0 0 ∷ (e - 2) ∷ (e + 1) ∷ on n f 4 0 ∷ on n f 11 24 ∷ on n f 11 25 ∷ []
+abbrev closings : Day → Bool → Day → List Day
+closings n isLeap e = on n isLeap 0 0 ∷ (e - 2) ∷ (e + 1) ∷ on n isLeap 4 0 ∷ on n isLeap 11 24 ∷ on n isLeap 11 25 ∷ []
 
 -- What is so in each year: Easter is from 22 March to 25 April
-record Frame (n : Day) (f : Days) (e : Day) : Type 0 where
-  february : (28 ≤ f) × (f ≤ 29)
-  easter : (on n f 2 21 ≤ e) × (e ≤ on n f 3 24)
+record Frame (n : Day) (isLeap : Bool) (e : Day) : Type 0 where
+  february : (28 ≤ getD (monthDays isLeap) 1 0) × (getD (monthDays isLeap) 1 0 ≤ 29)
+  easter : (on n isLeap 2 21 ≤ e) × (e ≤ on n isLeap 3 24)
 
-frame : (y : Year) → Frame (getD newYears (y - 2000) 0) (cond (leap y) 29 28) (easter y)
+frame : (y : Year) → Frame (getD newYears (y - 2000) 0) (leap y) (easter y)
 frame y = go (getD newYears (y - 2000) 0) (leap y) (springMoon y) (moon-within y)
   where
-    go : (n : Day) (isLeap : Bool) (moon : Days) → moon ≤ 28
-        → Frame n (cond isLeap 29 28) (sundayAfter (on n (cond isLeap 29 28) 2 20 + moon))
-    go n true moon h = record { february = omega arith; easter = omega (arith, sunday-within (on n 29 2 20 + moon)) }
-    go n false moon h = record { february = omega arith; easter = omega (arith, sunday-within (on n 28 2 20 + moon)) }
+    go : (n : Day) (isLeap : Bool) (moon : Days) → moon ≤ 28 → Frame n isLeap (sundayAfter (on n isLeap 2 20 + moon))
+    go n true moon h = record { february = omega arith; easter = omega (arith, sunday-within (on n true 2 20 + moon)) }
+    go n false moon h = record { february = omega arith; easter = omega (arith, sunday-within (on n false 2 20 + moon)) }
 
 -- Whether a day is one of some
 abbrev pub oneOf : List Day → Day → Bool
@@ -143,14 +142,13 @@ six p = cons (p .0) (cons (p .1) (cons (p .2) (cons (p .3) (cons (p .4) (cons (p
 abbrev Closing : Day → Type 0
 Closing d = isClosing (yearOf d) d ≡ true
 
--- What a day has to be other than, and so a day of that year is no closing day
-abbrev Unlike : Day → Days → Day → Day → Type 0
-Unlike n f e d = (d ≢ on n f 0 0) × (d ≢ e - 2) × (d ≢ e + 1) × (d ≢ on n f 4 0) × (d ≢ on n f 11 24) × (d ≢ on n f 11 25)
+-- A day of that year that is another than each of them is no closing day
+abbrev Unlike : Day → Bool → Day → Day → Type 0
+Unlike n isLeap e d =
+    (d ≢ on n isLeap 0 0) × (d ≢ e - 2) × (d ≢ e + 1) × (d ≢ on n isLeap 4 0) × (d ≢ on n isLeap 11 24) × (d ≢ on n isLeap 11 25)
 
 not-closing : (y : Year) → (2000 ≤ y) × (y ≤ 2399) → (d : Day)
-    → let n = getD newYears (y - 2000) 0 in
-    let f : Days = cond (leap y) 29 28 in
-    n ≤ d → d < on n f 11 31 → Unlike n f (easter y) d → Closing d → ⊥
+    → let n = getD newYears (y - 2000) 0 in n ≤ d → d < on n (leap y) 11 31 → Unlike n (leap y) (easter y) d → Closing d → ⊥
 not-closing y between d low high u c =
     let k : 2000 + (y - 2000) ≡ y = omega arith in
     let next : y - 2000 + 1 < 400 → d < getD newYears (y - 2000 + 1) 0 =
@@ -158,20 +156,20 @@ not-closing y between d low high u c =
     let same : yearOf d ≡ y = year-at d (y - 2000) (omega arith) low next ∙ k in
     never (sym (unlike d (closingDays y) (six u)) ∙ subst (λ (x : Year). isClosing x d ≡ true) same c)
   where
-    before : (n next : Day) (isLeap : Bool) → d < on n (cond isLeap 29 28) 11 31 → next ≡ n + cond isLeap 366 365 → d < next
+    before : (n next : Day) (isLeap : Bool) → d < on n isLeap 11 31 → next ≡ n + cond isLeap 366 365 → d < next
     before n next true h e = omega arith
     before n next false h e = omega arith
 
--- No closing day has others both in the four days before it and in the four days after it
+-- No closing day has others both in the four days before it and in the four days after it: those of one year are too far apart
 crowded : (p z q : Day) → p < z → z ≤ p + 4 → z < q → q ≤ z + 4 → Closing p → Closing z → Closing q → ⊥
 crowded p z q h i j k cp cz cq =
     let y = yearOf z in
-    go (getD newYears (y - 2000) 0) (cond (leap y) 29 28) (easter y) (frame y) (not-closing y (year-between z)) cz
+    go (getD newYears (y - 2000) 0) (leap y) (easter y) (frame y) (not-closing y (year-between z)) cz
   where
-    go : (n : Day) (f : Days) (e : Day) → Frame n f e → ((d : Day) → n ≤ d → d < on n f 11 31 → Unlike n f e d → Closing d → ⊥)
-        → oneOf (closings n f e) z ≡ true → ⊥
-    go n f e r shut c =
-        one-of z (closings n f e) c
+    go : (n : Day) (isLeap : Bool) (e : Day) → Frame n isLeap e
+        → ((d : Day) → n ≤ d → d < on n isLeap 11 31 → Unlike n isLeap e d → Closing d → ⊥) → oneOf (closings n isLeap e) z ≡ true → ⊥
+    go n isLeap e r shut c =
+        one-of z (closings n isLeap e) c
         (six (
           (λ s. shut q (omega arith) (omega arith) (omega arith) cq),
           (λ s. shut p (omega arith) (omega arith) (omega arith) cp),
@@ -218,7 +216,7 @@ unfolding workingAfter
 working-open d = go (firstOpen 4 (suc d)) (found 4 (suc d))
   where
     go : (f : Day) → Found 4 (suc d) f → isOpen f ≡ true
-    go f r = ⊎-elim last (λ l. r .opened l) (eq-or-lt-of-le (r .within))
+    go f r = ⊎-elim last (λ l. r .opens l) (eq-or-lt-of-le (r .within))
       where
         last : f ≡ suc d + 4 → isOpen f ≡ true
         last e =
@@ -231,4 +229,4 @@ working-open d = go (firstOpen 4 (suc d)) (found 4 (suc d))
 
 -- The promise
 pub working : (d : Day) → Working d (workingAfter d)
-working d = record { isOpened = working-open d; after = working-after d; within = working-within d; earliest = working-earliest d }
+working d = record { opens = working-open d; after = working-after d; within = working-within d; earliest = working-earliest d }

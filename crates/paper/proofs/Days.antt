@@ -29,24 +29,24 @@ first-shut left d h = rw (h, firstOpen)
 pub record Found (left : Days) (d f : Day) : Type 0 where
   pub from : d ≤ f
   pub within : f ≤ d + left
-  pub opened : f < d + left → isOpen f ≡ true
+  pub opens : f < d + left → isOpen f ≡ true
   pub earliest : (x : Day) → d ≤ x → x < f → isOpen x ≡ false
 
 pub found : (left : Days) (d : Day) → Found left d (firstOpen left d)
-found zero d = record { from = le-refl d; within = omega arith; opened = λ l. absurd (omega arith); earliest = λ x p q. absurd (omega arith) }
+found zero d = record { from = le-refl d; within = omega arith; opens = λ l. absurd (omega arith); earliest = λ x p q. absurd (omega arith) }
 found (suc left) d = go (isOpen d) refl (found left (suc d))
   where
     go : (open? : Bool) → isOpen d ≡ open? → Found left (suc d) (firstOpen left (suc d))
         → Found (suc left) d (firstOpen (suc left) d)
     go true e r =
         rw (first-open (suc left) d e)
-        (record { from = le-refl d; within = omega arith; opened = λ l. e; earliest = λ x p q. absurd (omega arith) })
+        (record { from = le-refl d; within = omega arith; opens = λ l. e; earliest = λ x p q. absurd (omega arith) })
     go false e r =
         rw (first-shut left d e)
         (record {
           from = omega arith;
           within = omega arith;
-          opened = λ l. r .opened (omega arith);
+          opens = λ l. r .opens (omega arith);
           earliest = λ x p q. ⊎-elim (λ s. rw (← s) e) (λ l. r .earliest x l q) (eq-or-lt-of-le p);
         })
 

@@ -6,11 +6,11 @@ use mathlib.Core.Path.{_≡_, refl}
 use lib.ListN.{replicate}
 use Rattle.paper.specs.Units.{Date, Year, Day}
 use Rattle.paper.specs.Lists.{joinedUp}
-use Rattle.paper.specs.Days.{day, weekday, easter, isOpen, workingAfter}
+use Rattle.paper.specs.Days.{day, easter, isOpen, workingAfter}
 
 -- The first working day after a day: an open one after it, at most five days off, and no day between the two is open
 pub record Working (d w : Day) : Type 0 where
-  pub isOpened : isOpen w ≡ true
+  pub opens : isOpen w ≡ true
   pub after : d < w
   pub within : w ≤ d + 5
   pub earliest : (x : Day) → d < x → x < w → isOpen x ≡ false

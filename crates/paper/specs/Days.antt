@@ -1,4 +1,4 @@
--- Days (01, "Days", and "Dates are eight digits, real Gregorian days of 2000 to 2399").
+-- Days (01, "Days", and "Dates are eight digits, real Gregorian days of 2000 to 2399"), with the closing days of 02, a.
 use Prim.Native.Nat.{ℕ, zero, suc, _+_, _-_, _*_, _/_, _%_}
 use mathlib.Core.Bool.{Bool, true, false, cond, not, _&&_, _||_}
 use mathlib.Core.List.{List, [], _∷_}
@@ -65,27 +65,28 @@ weekday d = (d + 5) % 7
 abbrev pub yearOf : Day → Year
 yearOf d = 1999 + length (only (λ newYear. leb newYear d) newYears)
 
--- Easter by the Gregorian reckoning: the first Sunday after the first full moon of spring, and spring begins on 21 March. The moon
--- is reckoned, not observed, in the steps from here to `easter`.
+-- Easter, by the Gregorian reckoning: the first Sunday after the first full moon of spring, which begins on 21 March. The moon is not
+-- the one in the sky but is reckoned, in the steps from here to `springMoon`.
 
--- Where a year stands in the moon's cycle: after 19 years full moons fall on the same dates again
+-- Where a year stands in the moon's cycle, from 0: after 19 years full moons fall on the same dates again
 abbrev pub inCycle : Year → ℕ
 inCycle y = y % 19
 
--- The days by which left-out leap days make the moon's dates later: of four centuries three leave one out
-abbrev pub leapDaysLeft : Year → Days
-leapDaysLeft y = y / 100 - y / 100 / 4
+-- The sun's correction: each leap day that a century leaves out, three in four hundred years, makes those dates a day later
+abbrev pub leapDaysLeftOut : Year → Days
+leapDaysLeftOut y = y / 100 - y / 100 / 4
 
--- The days by which the moon, a little quicker than its cycle, makes them earlier: eight in 25 centuries
+-- The moon's correction: it is a little quicker than its cycle, which makes them earlier by eight days in 25 centuries
 abbrev pub moonDaysGained : Year → Days
 moonDaysGained y = (8 * (y / 100) + 13) / 25
 
--- From year to year the full moon is 19 days later, in a round of 30 days that starts on 21 March. 15 is where it stood in a year 0
+-- Full moons go round in 30 days that begin on 21 March: from year to year 11 days earlier, which is 19 later. The 15 days are those
+-- of a cycle's first year with no correction
 abbrev pub inRound : Year → Days
-inRound y = (19 * inCycle y + 15 + leapDaysLeft y - moonDaysGained y) % 30
+inRound y = (19 * inCycle y + 15 + leapDaysLeftOut y - moonDaysGained y) % 30
 
--- The first full moon of spring, in days after 21 March. The last day of the round is given up, since a moon has 29 days and a half;
--- and so that no two years of a cycle share their moon, the day before it is given up too in years past the cycle's eleventh
+-- The first full moon of spring, in days after 21 March. This moon's month has 29 days and not 30, so the last day of the round counts
+-- as the one before; and lest two years of a cycle have one date, that one in turn as the one before, in years past the cycle's eleventh
 abbrev pub springMoon : Year → Days
 springMoon y = cond (eqb (inRound y) 29 || eqb (inRound y) 28 && ltb 10 (inCycle y)) (inRound y - 1) (inRound y)
 
@@ -97,8 +98,8 @@ sundayAfter d = suc d + (6 - weekday (suc d))
 abbrev pub easter : Year → Day
 easter y = sundayAfter (dayOn y 3 21 + springMoon y)
 
--- The closing days of a year: 1 January, Good Friday, Easter Monday, 1 May, 25 and 26 December. One that falls on a Saturday or a
--- Sunday has no substitute
+-- The closing days of a year, for every currency (02, a): 1 January, Good Friday, Easter Monday, 1 May, 25 and 26 December. One that
+-- falls on a Saturday or a Sunday has no substitute
 abbrev pub closingDays : Year → List Day
 closingDays y = dayOn y 1 1 ∷ (easter y - 2) ∷ (easter y + 1) ∷ dayOn y 5 1 ∷ dayOn y 12 25 ∷ dayOn y 12 26 ∷ []
 
@@ -116,6 +117,6 @@ abbrev pub firstOpen : Days → Day → Day
 firstOpen zero d = d
 firstOpen (suc left) d = elim (isOpen d) [ true ↦ d | false ↦ firstOpen left (suc d) ]
 
--- The first working day after a day: at most five days off
+-- The first working day after a day. It is at most five days off, so the fifth is not tested
 unfoldable pub workingAfter : Day → Day
 workingAfter d = firstOpen 4 (suc d)
