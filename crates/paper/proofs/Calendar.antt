@@ -1,6 +1,6 @@
 -- What depends on the closing days, and so looks into `isOpen`: of five days on end one is open. Another calendar proves that again.
 use Prim.Native.Nat.{ℕ, zero, suc, _+_, _-_, _*_, _/_, _%_, _≤_, _<_}
-use native.Mathlib.Nat.{le-refl, le-trans, eq-or-lt-of-le, not-suc-le-zero}
+use native.Mathlib.Nat.{le-refl, le-trans, eq-or-lt-of-le, not-suc-le-zero, mod-lt}
 use native.Mathlib.Numerals.{add-one}
 use native.Mathlib.Omega.{arith}
 use mathlib.Core.Bool.{Bool, true, false, cond, not, _&&_, _||_}
@@ -67,11 +67,23 @@ year-between d = go (counted d newYears) (first-counted 399 2000 d) (length-only
     go : (k : ℕ) → 1 ≤ k → k ≤ 400 → (2000 ≤ 1999 + k) × (1999 + k ≤ 2399)
     go k p q = omega arith
 
+-- A day from a year's 1 January on and before that year's days are over is in that year
+year-within : (y : Year) → (2000 ≤ y) × (y ≤ 2399) → (d : Day) → getD newYears (y - 2000) 0 ≤ d
+    → d < getD newYears (y - 2000) 0 + yearDays y → yearOf d ≡ y
+year-within y between d low high =
+    let k : 2000 + (y - 2000) ≡ y = omega arith in
+    let n = getD newYears (y - 2000) 0 in
+    year-at d (y - 2000) (omega arith) low
+    (λ l. subst (λ (next : Day). d < next)
+    (sym (new-years-step (y - 2000) l ∙ ap (λ (x : Year). n + yearDays x) k))
+    high)
+    ∙ k
+
 -- ---- Easter
 
 -- The first full moon of spring is at most 28 days after its beginning
 pub moon-within : (y : Year) → springMoon y ≤ 28
-moon-within y = go (inRound y) (inCycle y) (omega arith)
+moon-within y = go (inRound y) (inCycle y) (mod-lt _ (omega arith))
   where
     go : (round cycle : ℕ) → round < 30 → cond (eqb round 29 || eqb round 28 && ltb 10 cycle) (round - 1) round ≤ 28
     go round cycle h = last (eqb round 29) refl (eqb round 28 && ltb 10 cycle)
@@ -150,15 +162,14 @@ Unlike n isLeap e d =
 not-closing : (y : Year) → (2000 ≤ y) × (y ≤ 2399) → (d : Day)
     → let n = getD newYears (y - 2000) 0 in n ≤ d → d < on n (leap y) 11 31 → Unlike n (leap y) (easter y) d → Closing d → ⊥
 not-closing y between d low high u c =
-    let k : 2000 + (y - 2000) ≡ y = omega arith in
-    let next : y - 2000 + 1 < 400 → d < getD newYears (y - 2000 + 1) 0 =
-    λ l. before (getD newYears (y - 2000) 0) (getD newYears (y - 2000 + 1) 0) (leap y) high (rw k at (new-years-step (y - 2000) l)) in
-    let same : yearOf d ≡ y = year-at d (y - 2000) (omega arith) low next ∙ k in
-    never (sym (unlike d (closingDays y) (six u)) ∙ subst (λ (x : Year). isClosing x d ≡ true) same c)
+    go (yearOf d) (year-within y between d low (before (getD newYears (y - 2000) 0) (leap y) high)) c
   where
-    before : (n next : Day) (isLeap : Bool) → d < on n isLeap 11 31 → next ≡ n + cond isLeap 366 365 → d < next
-    before n next true h e = omega arith
-    before n next false h e = omega arith
+    before : (n : Day) (isLeap : Bool) → d < on n isLeap 11 31 → d < n + cond isLeap 366 365
+    before n true h = omega arith
+    before n false h = omega arith
+
+    go : (year : Year) → year ≡ y → isClosing year d ≡ true → ⊥
+    go year e k = never (sym (unlike d (closingDays y) (six u)) ∙ subst (λ (x : Year). isClosing x d ≡ true) e k)
 
 -- No closing day has others both in the four days before it and in the four days after it: those of one year are too far apart
 crowded : (p z q : Day) → p < z → z ≤ p + 4 → z < q → q ≤ z + 4 → Closing p → Closing z → Closing q → ⊥
