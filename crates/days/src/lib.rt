@@ -192,7 +192,7 @@ fn is_closing(years: &[Day; 400], y: Year, day: Day) -> bool
     day == day_in(years, y, 11, 25)
 }
 
-// Whether a day is a working day: another calendar changes this function, and the days left in `working_after`.
+// Whether a day is a working day.
 pub fn is_open(years: &[Day; 400], day: Day) -> bool
     requires { ⌜ now years ≡ newYears ⌝ }
     requires { ⌜ day < 146_400 ⌝ }
@@ -211,7 +211,7 @@ pub fn working_after(years: &[Day; 400], day: Day) -> Day
     ensures { λ r. ⌜ r ≡ workingAfter day ⌝ }
 {
     let mut d: Day = day + 1;
-    let mut left: Days = 4; // days to step
+    let mut left: Days = 4; // days to test
     let first: Day = loop {
         if left == 0 {
             break d;

@@ -12,7 +12,7 @@ use lib.Dec.{eqb, leb, ltb}
 use lib.ListN.{length, getD, take}
 use Rattle.paper.specs.Units.{Year, Month, DayOfMonth, Day, Days}
 use Rattle.paper.specs.Lists.{sum, only, firstThat, given}
-use Rattle.paper.specs.Days.{leap, yearDays, newYearsFrom, newYears, monthDays, dayOn, weekday, yearOf, inCycle, inRound, springMoon, sundayAfter, easter, closingDays, isClosing, isOpen, firstOpen, workingAfter}
+use Rattle.paper.specs.Days.{leap, yearDays, newYearsFrom, newYears, monthDays, dayOn, weekday, yearOf, inCycle, inRound, springMoon, sundayAfter, easter, closingDays, isClosing, isOpen, firstOpen, daysTested, workingAfter}
 use Rattle.paper.specs.Calendar.{Working}
 use Rattle.paper.proofs.Lists.{never, only-kept, only-left, length-only, Each, nil, cons}
 use Rattle.paper.proofs.Days.{new-years-step, day-in-below, Found, found, working-after, working-within, working-earliest}
@@ -224,9 +224,9 @@ one-of-five d a b c e = last (isOpen (d + 4)) refl
 -- The working day after a day is open: a search that goes to its last step has passed four days that are shut
 working-open : (d : Day) → isOpen (workingAfter d) ≡ true
 unfolding workingAfter
-working-open d = go (firstOpen 4 (suc d)) (found 4 (suc d))
+working-open d = go (firstOpen daysTested (suc d)) (found daysTested (suc d))
   where
-    go : (f : Day) → Found 4 (suc d) f → isOpen f ≡ true
+    go : (f : Day) → Found daysTested (suc d) f → isOpen f ≡ true
     go f r = ⊎-elim last (λ l. r .opens l) (eq-or-lt-of-le (r .within))
       where
         last : f ≡ suc d + 4 → isOpen f ≡ true

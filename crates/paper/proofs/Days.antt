@@ -14,7 +14,7 @@ use lib.ListN.{getD, take, List·getD-eq-default}
 use Rattle.paper.specs.Units.{Date, Year, Day, Days}
 use Rattle.paper.specs.Lists.{sum, between}
 use Rattle.paper.proofs.Lists.{both, when-some, every-at, sum-part}
-use Rattle.paper.specs.Days.{leap, yearDays, newYearsFrom, newYears, monthDays, isReal, dayIn, dayOf, weekday, isOpen, firstOpen, workingAfter}
+use Rattle.paper.specs.Days.{leap, yearDays, newYearsFrom, newYears, monthDays, isReal, dayIn, dayOf, weekday, isOpen, firstOpen, daysTested, workingAfter}
 
 -- The search's steps: it ends at an open day, and passes one that is not
 pub first-open : (left : Days) (d : Day) → isOpen d ≡ true → firstOpen left d ≡ d
@@ -53,17 +53,17 @@ found (suc left) d = go (isOpen d) refl (found left (suc d))
 -- The working day after a day is after it
 pub working-after : (d : Day) → d < workingAfter d
 unfolding workingAfter
-working-after d = found 4 (suc d) .from
+working-after d = found daysTested (suc d) .from
 
 -- It is at most five days off
 pub working-within : (d : Day) → workingAfter d ≤ d + 5
 unfolding workingAfter
-working-within d = omega (arith, found 4 (suc d) .within)
+working-within d = omega (arith, found daysTested (suc d) .within)
 
 -- No day between the two is open
 pub working-earliest : (d x : Day) → d < x → x < workingAfter d → isOpen x ≡ false
 unfolding workingAfter
-working-earliest d x p q = found 4 (suc d) .earliest x p q
+working-earliest d x p q = found daysTested (suc d) .earliest x p q
 
 -- 1 January 2000 was a Saturday
 pub saturday : weekday 0 ≡ 5

@@ -107,8 +107,8 @@ closingDays y = dayOn y 1 1 ∷ (easter y - 2) ∷ (easter y + 1) ∷ dayOn y 5 
 abbrev pub isClosing : Year → Day → Bool
 isClosing y d = given (firstThat (eqb d) (closingDays y))
 
--- Open days: neither Saturday nor Sunday, and no closing day of their year. Another calendar changes this definition, and how far
--- `workingAfter` looks
+-- Open days: neither Saturday nor Sunday, and no closing day of their year. Another calendar changes this definition,
+-- and `daysTested`
 unfoldable pub isOpen : Day → Bool
 isOpen d = ltb (weekday d) 5 && not (isClosing (yearOf d) d)
 
@@ -117,6 +117,10 @@ abbrev pub firstOpen : Days → Day → Day
 firstOpen zero d = d
 firstOpen (suc left) d = elim (isOpen d) [ true ↦ d | false ↦ firstOpen left (suc d) ]
 
--- The first working day after a day. It is at most five days off, so the fifth is not tested
+-- How many days are tested: where four on end are not open, the fifth is
+abbrev pub daysTested : Days
+daysTested = 4
+
+-- The first working day after a day: at most five days off
 unfoldable pub workingAfter : Day → Day
-workingAfter d = firstOpen 4 (suc d)
+workingAfter d = firstOpen daysTested (suc d)

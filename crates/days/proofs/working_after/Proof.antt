@@ -7,7 +7,7 @@ use native.Mathlib.Omega.{arith}
 use mathlib.Core.Bool.{false}
 use mathlib.Core.Path.{_≡_, sym, ap, _∙_}
 use borrow.Author.Needs.{needs}
-use Rattle.paper.specs.Days.{isOpen, firstOpen, workingAfter}
+use Rattle.paper.specs.Days.{isOpen, firstOpen, daysTested, workingAfter}
 use Rattle.paper.proofs.Days.{first-open, first-shut}
 use Rattle.days.proofs.working_after.Statement.{statement}
 use Rattle.days.proofs.working_after.Tie as tie
@@ -33,7 +33,7 @@ loop-holds : tie.Need-loop-holds Inv-loop μ-loop
 unfolding workingAfter
 loop-holds c =
     let next : suc (c .args .day) ≡ c .args .day + 1 = omega arith in
-    (omega arith, ap (firstOpen 4) next)
+    (omega arith, ap (firstOpen daysTested) next)
 
 is-open-requires : tie.Need-is-open-requires Inv-loop μ-loop
 is-open-requires c κs = search needs
