@@ -144,8 +144,8 @@ fn spring_moon(y: Year) -> Days
 {
     let cycle = y % 19; // years
     let century = y / 100; // hundreds of years
-    let later = century - century / 4; // days
-    let earlier = (8 * century + 13) / 25; // days
+    let later = century - century / 4; // days, for leap days left out
+    let earlier = (8 * century + 13) / 25; // days, for a moon quicker than its cycle
     let round: Days = (19 * cycle + 15 + later - earlier) % 30;
     if round == 29 {
         return 28;
@@ -167,7 +167,8 @@ fn easter(years: &[Day; 400], y: Year) -> Day
     next + (6 - weekday(next))
 }
 
-// Whether a day is one of a year's closing days.
+// Whether a day is one of a year's closing days: 1 January, Good Friday, Easter Monday, 1 May, 25 and 26 December, in the paper's
+// order.
 fn is_closing(years: &[Day; 400], y: Year, day: Day) -> bool
     requires { ⌜ now years ≡ newYears ⌝ }
     requires { ⌜ (2000 ≤ y) × (y ≤ 2399) ⌝ }
