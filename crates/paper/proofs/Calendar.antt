@@ -171,7 +171,8 @@ not-closing y between d low high u c =
     go : (year : Year) → year ≡ y → isClosing year d ≡ true → ⊥
     go year e k = never (sym (unlike d (closingDays y) (six u)) ∙ subst (λ (x : Year). isClosing x d ≡ true) e k)
 
--- No closing day has others both in the four days before it and in the four days after it: those of one year are too far apart
+-- No closing day has others both in the four days before it and in the four after it: Good Friday and Easter Monday have each other,
+-- 25 and 26 December too, and the rest have none
 crowded : (p z q : Day) → p < z → z ≤ p + 4 → z < q → q ≤ z + 4 → Closing p → Closing z → Closing q → ⊥
 crowded p z q h i j k cp cz cq =
     let y = yearOf z in
