@@ -120,7 +120,7 @@ pub fn weekday(day: Day) -> DayOfWeek
     (day % 7 + 5) % 7
 }
 
-// The year of a day. No year has more than 366 days, so that the guess is the year or the one before it.
+// The year of a day. No year has more than 366 days, so the guess is never late; over 400 years it is at most one year early.
 fn year_of(years: &[Day; 400], day: Day) -> Year
     requires { ⌜ now years ≡ newYears ⌝ }
     requires { ⌜ day < 146_400 ⌝ }
