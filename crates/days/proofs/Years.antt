@@ -18,17 +18,18 @@ abbrev near : ℕ → List Day → Bool
 near years [] = true
 near years (n ∷ ns) = leb n (366 * years) && (leb (366 * years) (n + 366) && near (suc years) ns)
 
+near-cons : (years : ℕ) (n : Day) (ns : List Day) → near years (n ∷ ns) ≡ true
+    → (n ≤ 366 * years) × (366 * years ≤ n + 366) × (near (suc years) ns ≡ true)
+near-cons years n ns e =
+    let a = both (leb n (366 * years)) (leb (366 * years) (n + 366) && near (suc years) ns) e in
+    let b = both (leb (366 * years) (n + 366)) (near (suc years) ns) (a .1) in
+    (leb-true n (366 * years) (a .0), leb-true (366 * years) (n + 366) (b .0), b .1)
+
 near-at : (years : ℕ) (ns : List Day) → near years ns ≡ true → (i : ℕ) → i < length ns
     → (getD ns i 0 ≤ 366 * (years + i)) × (366 * (years + i) ≤ getD ns i 0 + 366)
 near-at years [] e i h = absurd (not-suc-le-zero h)
-near-at years (n ∷ ns) e zero h =
-    let a = both (leb n (366 * years)) (leb (366 * years) (n + 366) && near (suc years) ns) e in
-    let b = both (leb (366 * years) (n + 366)) (near (suc years) ns) (a .1) in
-    omega (arith, leb-true n (366 * years) (a .0), leb-true (366 * years) (n + 366) (b .0))
-near-at years (n ∷ ns) e (suc i) h =
-    let a = both (leb n (366 * years)) (leb (366 * years) (n + 366) && near (suc years) ns) e in
-    let b = both (leb (366 * years) (n + 366)) (near (suc years) ns) (a .1) in
-    omega (arith, near-at (suc years) ns (b .1) i (omega arith))
+near-at years (n ∷ ns) e zero h = let r = near-cons years n ns e in omega (arith, r .0, r .1)
+near-at years (n ∷ ns) e (suc i) h = omega (arith, near-at (suc years) ns (near-cons years n ns e .2) i (omega arith))
 
 -- Computed once over the table: so the 1 January of a guess is not after the day, and that of two years later is
 not-after : (d : Day) (i : ℕ) → i < 400 → 366 * i ≤ d → getD newYears i 0 ≤ d

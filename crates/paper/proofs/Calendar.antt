@@ -97,15 +97,19 @@ moon-within y = go (inRound y) (inCycle y) (mod-lt _ (omega arith))
 pub sunday-within : (d : Day) → (d < sundayAfter d) × (sundayAfter d ≤ d + 7)
 sunday-within d = omega arith
 
--- Easter is a day of the 400 years or few days past them, by what bounds its parts
-pub easter-below : (y : Year) → (2000 ≤ y) × (y ≤ 2399) → easter y < 146_132
-easter-below y b =
-    let march = day-in-below y 2 20 (record { low = b .0; high = b .1; in-month = omega arith }) in
-    let moon = moon-within y in
-    go (dayOn y 3 21) (springMoon y) march moon
+-- The moon's day and Easter are days of the 400 years or few days past them, by what bounds their parts
+pub moon-below : (y : Year) → (2000 ≤ y) × (y ≤ 2399) → dayOn y 3 21 + springMoon y < 146_125
+moon-below y b =
+    go (dayOn y 3 21) (springMoon y) (day-in-below y 2 20 (record { low = b .0; high = b .1; in-month = omega arith })) (moon-within y)
   where
-    go : (march moon : ℕ) → march < 146_097 → moon ≤ 28 → sundayAfter (march + moon) < 146_132
-    go march moon h k = omega (arith, sunday-within (march + moon))
+    go : (march : Day) (moon : Days) → march < 146_097 → moon ≤ 28 → march + moon < 146_125
+    go march moon h k = omega arith
+
+pub easter-below : (y : Year) → (2000 ≤ y) × (y ≤ 2399) → easter y < 146_132
+easter-below y b = go (dayOn y 3 21 + springMoon y) (moon-below y b)
+  where
+    go : (moon : Day) → moon < 146_125 → sundayAfter moon < 146_132
+    go moon h = omega (arith, sunday-within moon)
 
 -- ---- the closing days of a year: day `n` is its 1 January and day `e` its Easter
 
@@ -132,6 +136,10 @@ frame y = go (getD newYears (y - 2000) 0) (leap y) (springMoon y) (moon-within y
 abbrev pub oneOf : List Day → Day → Bool
 oneOf days d = given (firstThat (eqb d) days)
 
+-- A day other than the first of them is one of them where it is one of the rest
+pub one-past : (d c : Day) (days : List Day) → d ≢ c → oneOf (c ∷ days) d ≡ oneOf days d
+one-past d c days h = rw (ne-eqb d c h, firstThat) refl
+
 -- One of them is the first, or one of the rest
 one-of : {X : Type 0} (d : Day) (days : List Day) → oneOf days d ≡ true → Each (λ closing. d ≡ closing → X) days → X
 one-of d [] h nil = never h
@@ -139,12 +147,12 @@ one-of {X} d (c ∷ days) h (cons x xs) = go (eqb d c) refl (λ k. one-of d days
   where
     go : (b : Bool) → eqb d c ≡ b → (oneOf days d ≡ true → X) → X
     go true e rest = x (eqb-true d c e)
-    go false e rest = rest (rw (e, firstThat) at h)
+    go false e rest = rest (sym (one-past d c days (eqb-false d c e)) ∙ h)
 
 -- A day other than each of them is none
 unlike : (d : Day) (days : List Day) → Each (λ closing. d ≢ closing) days → oneOf days d ≡ false
 unlike d [] nil = refl
-unlike d (c ∷ days) (cons x xs) = rw (ne-eqb d c x, firstThat) (unlike d days xs)
+unlike d (c ∷ days) (cons x xs) = one-past d c days x ∙ unlike d days xs
 
 -- Six facts, each of a day
 six : {P : Day → Type 0} {a b c d e f : Day} → P a × P b × P c × P d × P e × P f → Each P (a ∷ b ∷ c ∷ d ∷ e ∷ f ∷ [])

@@ -65,10 +65,10 @@ weekday d = (d + 5) % 7
 abbrev pub yearOf : Day → Year
 yearOf d = 1999 + length (only (λ newYear. leb newYear d) newYears)
 
--- Easter, by the Gregorian reckoning: the first Sunday after the first full moon of spring, which begins on 21 March. The moon is not
+-- Easter, by the Gregorian reckoning (02, a): the first Sunday after the first full moon of spring, which begins on 21 March. The moon is not
 -- the one in the sky but is reckoned, in the steps from here to `springMoon`.
 
--- Where a year stands in the moon's cycle, from 0: after 19 years full moons fall on the same dates again
+-- Where a year stands in the moon's cycle, in years from 0: after 19 years full moons fall on the same dates again
 abbrev pub inCycle : Year → ℕ
 inCycle y = y % 19
 
@@ -107,8 +107,8 @@ closingDays y = dayOn y 1 1 ∷ (easter y - 2) ∷ (easter y + 1) ∷ dayOn y 5 
 abbrev pub isClosing : Year → Day → Bool
 isClosing y d = given (firstThat (eqb d) (closingDays y))
 
--- Open days: neither Saturday nor Sunday, and no closing day of their year. Another calendar changes this definition,
--- and `daysTested`
+-- Open days (01, "Days"; 02, a): neither Saturday nor Sunday, and no closing day of their year. Another calendar changes this
+-- definition, and `daysTested`
 unfoldable pub isOpen : Day → Bool
 isOpen d = ltb (weekday d) 5 && not (isClosing (yearOf d) d)
 
@@ -121,6 +121,6 @@ firstOpen (suc left) d = elim (isOpen d) [ true ↦ d | false ↦ firstOpen left
 abbrev pub daysTested : Days
 daysTested = 4
 
--- The first working day after a day: at most five days off
+-- The first working day after a day (01, "Days"; 02, a): at most five days off
 unfoldable pub workingAfter : Day → Day
 workingAfter d = firstOpen daysTested (suc d)

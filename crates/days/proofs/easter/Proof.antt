@@ -6,8 +6,7 @@ use mathlib.Core.Path.{_≡_, refl, sym, ap, subst, subst⁻¹, _∙_}
 use borrow.Author.Needs.{needs}
 use Rattle.paper.specs.Units.{Day, Days}
 use Rattle.paper.specs.Days.{dayIn, springMoon, sundayAfter, weekday}
-use Rattle.paper.proofs.Days.{Real, real, day-in-below}
-use Rattle.paper.proofs.Calendar.{moon-within}
+use Rattle.paper.proofs.Calendar.{moon-below}
 use Rattle.days.proofs.Years.{real-day}
 use Rattle.days.proofs.easter.Statement.{statement}
 use Rattle.days.proofs.easter.Tie as tie
@@ -23,20 +22,20 @@ day-in-requires c κs = (c .pre .0, real-day (c .args .y) (c .pre .1) 2 20 refl)
 spring-moon-requires : tie.Need-spring-moon-requires
 spring-moon-requires c κs = search needs
 
--- The moon's day is one of the 400 years', or few days behind them
-moon-below : (c : tie.After-spring-moon) → c .before .day-in .result + c .spring-moon .result < 146_125
-moon-below c =
+-- The moon's day as the code has it is below what the paper's is
+moon-fits : (c : tie.After-spring-moon) → c .before .day-in .result + c .spring-moon .result < 146_125
+moon-fits c =
     let s = c .before .before in
     let y = s .args .y in
-    let march = subst⁻¹ (λ (d : Day). d < 146_097) (c .before .day-in .ensures) (day-in-below y 2 20 (real y 2 20 (real-day y (s .pre .1) 2 20 refl))) in
-    let moon = subst⁻¹ (λ (d : Days). d ≤ 28) (c .spring-moon .ensures) (moon-within y) in
-    omega arith
+    subst⁻¹ (λ (d : Day). d < 146_125)
+    (ap (λ (d : Day). d + c .spring-moon .result) (c .before .day-in .ensures) ∙ ap (λ (m : Days). dayIn y 2 20 + m) (c .spring-moon .ensures))
+    (moon-below y (s .pre .1))
 
 add-moon : tie.Need-add-moon
-add-moon c = omega (arith, moon-below c)
+add-moon c = omega (arith, moon-fits c)
 
 add-next : tie.Need-add-next
-add-next c = omega (arith, moon-below c)
+add-next c = omega (arith, moon-fits c)
 
 weekday-requires : tie.Need-weekday-requires
 weekday-requires c κs = search needs
@@ -45,7 +44,7 @@ sub-result : tie.Need-sub-result
 sub-result c = search needs
 
 add-result : tie.Need-add-result
-add-result c = omega (arith, moon-below (c .before))
+add-result c = omega (arith, moon-fits (c .before))
 
 returns : tie.Need-returns
 returns c =

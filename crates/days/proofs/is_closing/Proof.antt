@@ -6,13 +6,13 @@ use mathlib.Core.List.{List, [], _∷_}
 use mathlib.Core.Logic.{_≢_}
 use mathlib.Core.Path.{_≡_, refl, sym, ap, subst⁻¹, _∙_}
 use borrow.Author.Needs.{needs}
-use borrow.Author.Tests.{eq-eqb, ne-eqb}
+use borrow.Author.Tests.{eq-eqb}
 use lib.Dec.{eqb}
 use lib.ListN.{drop}
 use Rattle.paper.specs.Units.{Day}
 use Rattle.paper.specs.Lists.{firstThat}
 use Rattle.paper.specs.Days.{closingDays, isClosing}
-use Rattle.paper.proofs.Calendar.{oneOf, easter-below}
+use Rattle.paper.proofs.Calendar.{oneOf, one-past, easter-below}
 use Rattle.days.proofs.Years.{real-day}
 use Rattle.days.proofs.is_closing.Statement.{statement}
 use Rattle.days.proofs.is_closing.Tie as tie
@@ -22,7 +22,7 @@ here : (d x closing : Day) (rest : List Day) → x ≡ closing → d ≡ x → t
 here d x closing rest e h = rw (eq-eqb d closing (h ∙ e), firstThat) refl
 
 past : (d x closing : Day) (rest : List Day) → x ≡ closing → d ≢ x → oneOf (closing ∷ rest) d ≡ oneOf rest d
-past d x closing rest e h = rw (ne-eqb d closing (λ k. h (k ∙ sym e)), firstThat) refl
+past d x closing rest e h = one-past d closing rest (λ k. h (k ∙ sym e))
 
 last : (d x closing : Day) → x ≡ closing → eqb d x ≡ oneOf (closing ∷ []) d
 last d x closing e = ap (eqb d) e ∙ go (eqb d closing) refl
