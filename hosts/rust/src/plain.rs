@@ -5,6 +5,7 @@
 
 #![forbid(unsafe_code)]
 
+mod codes;
 pub mod days;
 mod fields;
 mod figures;
@@ -12,6 +13,7 @@ mod read;
 mod tables;
 mod write;
 
+pub use codes::is_code;
 pub use figures::{accrued, figures, interest, net, revaluated, share, CurrencyFigures, Figures};
 pub use read::read;
 pub use tables::{Class, Offset, Refusal, Security, Tables, Trade};

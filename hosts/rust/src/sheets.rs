@@ -6,6 +6,7 @@
 
 mod calendar;
 mod chance;
+mod codes;
 mod damage;
 mod draft;
 mod rules;
@@ -16,6 +17,8 @@ use crate::plain::LEAST_ROOM;
 use chance::Chance;
 use draft::Draft;
 use valid::Size;
+
+pub use codes::check_digit;
 
 /// What the answer must be, as far as the making of the case tells.
 #[derive(Clone, Copy, Debug, PartialEq, Eq)]

@@ -58,8 +58,11 @@ fn the_generator_reaches_everything() {
             let (refusal, line) = (answer / 65_536, answer % 65_536);
             let (first, last) = lines.entry(refusal).or_insert((line, line));
             (*first, *last) = (line.min(*first), line.max(*last));
-            if refusal == 12 {
-                outside(&case.sheet, line as usize, &mut seen);
+            match refusal {
+                6 => wrong_code(&case.sheet, line as usize, &mut seen),
+                10 => hidden_slip(&case.sheet, line as usize, &mut seen),
+                12 => outside(&case.sheet, line as usize, &mut seen),
+                _ => {}
             }
             continue;
         }
@@ -174,6 +177,68 @@ fn outside(sheet: &[u8], line: usize, seen: &mut Seen) {
     seen.note("refused by a closing day alone, coupon before the working day", only_closing && period.end < working);
 }
 
+type Code = [u8; 12];
+
+/// The letter of an S or a T row and its code, be it right or not.
+fn code(row: &[u8]) -> Option<(u8, Code)> {
+    let mut fields = row.split(|&byte| byte == b';');
+    let field = match fields.next()? {
+        b"S" => fields.next()?,
+        b"T" => fields.nth(2)?,
+        _ => return None,
+    };
+    Some((row[0], field.try_into().ok()?))
+}
+
+/// The letter and the code of one line, and the codes of the T rows if it is an S row, else of the S rows.
+fn code_and_others(sheet: &[u8], line: usize) -> Option<(u8, Code, Vec<Code>)> {
+    let rows: Vec<&[u8]> = sheet.split(|&byte| byte == b'\n').collect();
+    let (letter, own) = code(rows[line - 1])?;
+    let others = rows.iter().filter_map(|row| code(row)).filter(|&(other, _)| other != letter);
+    Some((letter, own, others.map(|(_, code)| code).collect()))
+}
+
+const SLIPS: [&str; 4] = ["the last digit changed", "another digit changed", "two digits swapped", "a letter swapped"];
+
+/// The slip between two codes, if there is one.
+fn slip(one: &Code, other: &Code) -> Option<&'static str> {
+    let places: Vec<usize> = (0..12).filter(|&at| one[at] != other[at]).collect();
+    let digits = places.iter().all(|&at| one[at].is_ascii_digit() && other[at].is_ascii_digit());
+    match places[..] {
+        [11] => Some(SLIPS[0]),
+        [_] if digits => Some(SLIPS[1]),
+        [at, next] if next == at + 1 && [one[at], one[next]] == [other[next], other[at]] => {
+            Some(if digits { SLIPS[2] } else { SLIPS[3] })
+        }
+        _ => None,
+    }
+}
+
+/// A code that only its last digit makes wrong, on a line before which every line is good.
+fn wrong_code(sheet: &[u8], line: usize, seen: &mut Seen) {
+    let Some((letter, code, others)) = code_and_others(sheet, line) else { return };
+    let with_last = |digit: u8| [&code[..11], &[digit]].concat().try_into().expect("twelve bytes");
+    let right = (b'0'..=b'9').find(|&digit| plain::is_code(&with_last(digit)));
+    let wrong = code[11].is_ascii_digit() && right.is_some_and(|digit| digit != code[11]);
+    let (in_security, in_trade) = (wrong && letter == b'S', wrong && letter == b'T');
+    let same = others.contains(&code);
+    let slips: Vec<&str> = others.iter().filter_map(|other| slip(&code, other)).collect();
+    seen.note("a wrong code in an S row and its T rows", in_security && same);
+    seen.note("a wrong code in a T row, and none near it in S rows", in_trade && slips.is_empty());
+    for kind in SLIPS {
+        seen.note(&format!("{kind} in an S row, not in its T rows"), in_security && !same && slips.contains(&kind));
+        seen.note(&format!("{kind} in a T row"), in_trade && slips.contains(&kind));
+    }
+}
+
+/// Two digits swapped where both codes are right, on a line before which every line is good.
+fn hidden_slip(sheet: &[u8], line: usize, seen: &mut Seen) {
+    if let Some((b'T', code, others)) = code_and_others(sheet, line) {
+        let hidden = others.iter().any(|other| slip(&code, other) == Some("two digits swapped"));
+        seen.note("0 and 9 swapped in a T row", hidden);
+    }
+}
+
 /// Closing days that are the same date each year.
 const FIXED: [(&str, &str); 4] =
     [("1 January", "0101"), ("1 May", "0501"), ("25 December", "1225"), ("26 December", "1226")];
@@ -241,6 +306,13 @@ fn text(sheet: &[u8], seen: &mut Seen, ranges: &mut BTreeMap<String, (i64, i64)>
         }
         if row[0] == "S" {
             previous.insert(row[1], day(row[8]));
+            for digit in 0..10 {
+                seen.note(&format!("check digit {digit}"), row[1].ends_with(&digit.to_string()));
+            }
+            let letters = row[1][2..11].bytes().filter(u8::is_ascii_uppercase).count();
+            seen.note("a code without letters among its nine", letters == 0);
+            seen.note("a code with letters and digits among its nine", (1..9).contains(&letters));
+            seen.note("a code with nine letters", letters == 9);
             let length = day(row[9]) - day(row[8]);
             seen.note("a coupon period of a day", length == 1);
             seen.note("a coupon period of 400 days", length == 400);

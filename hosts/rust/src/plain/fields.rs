@@ -4,6 +4,7 @@
 //! later field may still show that the line has the wrong shape. Only that, refusal 5, ends a line at once, and every
 //! function here says it by `None`: the sheet ended, or the field did not end in the byte asked for.
 
+use super::codes::is_code;
 use super::days;
 use super::tables::{places_below, CODES};
 
@@ -147,7 +148,7 @@ impl<'a> Cursor<'a> {
     }
 
     /// The place of a code among `codes`, which rise; refusal 10 for one that is not there, 6 for what is no code.
-    /// Those in the table are well formed, so a code is looked at closely only when it is not found.
+    /// Those in the table are codes with a right check digit, so one is looked at closely only when it is not found.
     #[inline(always)]
     pub fn place_of_code(&mut self, codes: &[u128; CODES]) -> Option<usize> {
         if let Some(&[ref code @ .., PART]) = self.peek::<13>() {
@@ -209,17 +210,6 @@ fn leading_digits(bytes: &[u8]) -> (u64, usize) {
         value = value.wrapping_mul(10).wrapping_add(digit as u64);
     }
     (value, bytes.len())
-}
-
-/// Two letters A-Z, nine of A-Z and 0-9, one digit.
-fn is_code(code: &[u8; 12]) -> bool {
-    let letter = |byte: u8| byte.wrapping_sub(b'A') < 26;
-    let digit = |byte: u8| byte.wrapping_sub(b'0') < 10;
-    let mut formed = letter(code[0]) & letter(code[1]) & digit(code[11]);
-    for &byte in &code[2..11] {
-        formed &= letter(byte) | digit(byte);
-    }
-    formed
 }
 
 #[inline(always)]

@@ -1,15 +1,24 @@
-//! One rule broken in a draft that is else valid: the refusals that the numbers decide, 7 to 12. Each says what must
-//! come of it. Rows are judged by the rows above them, so nothing on a later line can change that.
+//! One rule broken in a draft that is else valid: the refusals that the numbers decide, 7 to 12, and 6 for a wrong
+//! check digit. Each says what must come of it. Rows are judged by the rows above them, so nothing on a later line can
+//! change that.
 
 use super::calendar::working_day;
 use super::chance::Chance;
+use super::codes::{checked, hidden_slip, slip};
 use super::draft::{Draft, OffsetRow, SecurityRow, TradeRow, LAST_CALCULATION, LAST_DAY};
 use super::valid::Size;
 use super::Aim;
 
 type Break = fn(&mut Chance, &mut Draft) -> Option<Aim>;
 
-const BREAKS: [Break; 26] = [
+const BREAKS: [Break; 36] = [
+    security_with_wrong_code,
+    security_with_wrong_code,
+    both_with_wrong_code,
+    both_with_wrong_code,
+    trade_with_wrong_code,
+    trade_with_wrong_code,
+    trade_with_wrong_code,
     calculation_too_late,
     coupon_dates,
     coupon_dates,
@@ -28,6 +37,9 @@ const BREAKS: [Break; 26] = [
     offset_names_no_class,
     trade_names_no_security,
     trade_names_no_security,
+    trade_with_hidden_slip,
+    trade_with_hidden_slip,
+    trade_with_hidden_slip,
     orphan,
     no_class_for_security,
     no_class_for_security,
@@ -77,6 +89,31 @@ fn row<T>(chance: &mut Chance, rows: &[T], start: u64) -> Option<(usize, u64)> {
 fn later_row<T>(chance: &mut Chance, rows: &[T], start: u64) -> Option<(usize, u64)> {
     let (at, line) = row(chance, rows.get(1..)?, start + 1)?;
     Some((at + 1, line))
+}
+
+/// The T rows have it right.
+fn security_with_wrong_code(chance: &mut Chance, draft: &mut Draft) -> Option<Aim> {
+    let (at, line) = row(chance, &draft.securities, draft.starts()[2])?;
+    draft.securities[at].code = slip(chance, &draft.securities[at].code)?;
+    Some(Aim::Refused(6, line))
+}
+
+/// The same wrong code in an S row and in the T rows that name it.
+fn both_with_wrong_code(chance: &mut Chance, draft: &mut Draft) -> Option<Aim> {
+    let (at, line) = row(chance, &draft.securities, draft.starts()[2])?;
+    let right = draft.securities[at].code;
+    let wrong = slip(chance, &right)?;
+    draft.securities[at].code = wrong;
+    draft.trades.iter_mut().filter(|trade| trade.code == right).for_each(|trade| trade.code = wrong);
+    Some(Aim::Refused(6, line))
+}
+
+/// The S row has it right, or there is none even for the right one.
+fn trade_with_wrong_code(chance: &mut Chance, draft: &mut Draft) -> Option<Aim> {
+    let (at, line) = row(chance, &draft.trades, draft.starts()[3])?;
+    let right = if chance.one_in(3) { missing_code(chance, &draft.securities)? } else { draft.trades[at].code };
+    draft.trades[at].code = slip(chance, &right)?;
+    Some(Aim::Refused(6, line))
 }
 
 fn calculation_too_late(chance: &mut Chance, draft: &mut Draft) -> Option<Aim> {
@@ -217,6 +254,14 @@ fn trade_names_no_security(chance: &mut Chance, draft: &mut Draft) -> Option<Aim
     Some(Aim::Refused(10, line))
 }
 
+/// A slip that makes another right code, which no S row has.
+fn trade_with_hidden_slip(chance: &mut Chance, draft: &mut Draft) -> Option<Aim> {
+    let (at, line) = row(chance, &draft.trades, draft.starts()[3])?;
+    let code = hidden_slip(chance, &draft.trades[at].code)?;
+    draft.trades[at].code = missing(code, &draft.securities)?;
+    Some(Aim::Refused(10, line))
+}
+
 /// Rows that name what an empty section does not have.
 fn orphan(chance: &mut Chance, draft: &mut Draft) -> Option<Aim> {
     let [_, offsets, securities, trades] = draft.starts();
@@ -318,21 +363,29 @@ fn first_outside(draft: &Draft) -> Option<u64> {
     draft.trades.iter().position(outside).map(|at| draft.starts()[3] + at as u64)
 }
 
-/// The next code in order that differs in the last digit alone.
+/// A code behind this one in order, that differs near its end alone.
 fn beyond(code: &[u8; 12]) -> Option<[u8; 12]> {
     let mut next = *code;
-    next[11] += 1;
-    (next[11] <= b'9').then_some(next)
+    next[10] = match next[10] {
+        b'9' => b'A',
+        b'Z' => return None,
+        byte => byte + 1,
+    };
+    Some(checked(next))
 }
 
-/// A well formed code that no S row has, close to one that is there: before all, behind all or between.
+/// A code that no S row has, close to one that is there: before all, behind all or between.
 fn missing_code(chance: &mut Chance, rows: &[SecurityRow]) -> Option<[u8; 12]> {
     let mut code = rows.get(chance.place(rows.len().max(1)))?.code;
-    let at = *chance.pick(&[0, 1, 2, 6, 7, 8, 10, 11, 11]);
+    let at = *chance.pick(&[0, 1, 2, 6, 7, 8, 9, 10, 10]);
     code[at] = match at {
         0 | 1 => b'A' + chance.below(26) as u8,
-        11 => b'0' + chance.below(10) as u8,
         _ => *chance.pick(b"0189AZ"),
     };
+    missing(checked(code), rows)
+}
+
+/// The code, if no S row has it.
+fn missing(code: [u8; 12], rows: &[SecurityRow]) -> Option<[u8; 12]> {
     (!rows.iter().any(|row| row.code == code)).then_some(code)
 }

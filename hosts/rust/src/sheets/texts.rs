@@ -1,7 +1,8 @@
 //! Texts that a field must not have, each with the refusal it earns: numbers out of range or ill written, letters that
-//! are none, codes and currencies a byte off, dates that are no days.
+//! are none, codes and currencies a byte off, codes with a wrong digit, dates that are no days.
 
 use super::chance::Chance;
+use super::codes::{is_code, slip};
 
 /// What stands in a field, as document 01 has it for the rows.
 #[derive(Clone, Copy)]
@@ -60,7 +61,8 @@ pub fn bad(chance: &mut Chance, kind: Kind, good: &[u8]) -> (Vec<u8>, u64) {
             Kind::Payments => bad_number(chance, 1, 4, good),
             Kind::Signed(most) => bad_signed(chance, most, good),
             Kind::Letter(_) => bad_letter(chance, good),
-            Kind::Currency | Kind::Code => bad_name(chance, good),
+            Kind::Currency => bad_name(chance, good),
+            Kind::Code => bad_code(chance, good),
             Kind::Date => bad_date(chance, good),
             Kind::Blank => filled(chance),
         };
@@ -84,7 +86,6 @@ fn usual(kind: Kind) -> &'static [u8] {
 }
 
 fn is_good(kind: Kind, text: &[u8]) -> bool {
-    let upper = |bytes: &[u8]| bytes.iter().all(u8::is_ascii_uppercase);
     match kind {
         Kind::Number(low, high) => number(text).is_some_and(|value| (low..=high).contains(&value)),
         Kind::Payments => [b"1", b"2", b"4"].iter().any(|good| text == *good),
@@ -93,11 +94,8 @@ fn is_good(kind: Kind, text: &[u8]) -> bool {
             None => number(text).is_some_and(|value| value <= most),
         },
         Kind::Letter(letters) => text.len() == 1 && letters.contains(&text[0]),
-        Kind::Currency => text.len() == 3 && upper(text),
-        Kind::Code => {
-            let middle = |byte: &u8| byte.is_ascii_uppercase() || byte.is_ascii_digit();
-            text.len() == 12 && upper(&text[..2]) && text[2..].iter().all(middle) && text[11].is_ascii_digit()
-        }
+        Kind::Currency => text.len() == 3 && text.iter().all(u8::is_ascii_uppercase),
+        Kind::Code => is_code(text),
         Kind::Date => is_date(text),
         Kind::Blank => text.is_empty(),
     }
@@ -194,6 +192,11 @@ fn bad_name(chance: &mut Chance, good: &[u8]) -> Vec<u8> {
         5 => [b"0", &good[1..]].concat(),
         _ => altered(chance, good),
     }
+}
+
+fn bad_code(chance: &mut Chance, good: &[u8]) -> Vec<u8> {
+    let slipped = good.try_into().ok().and_then(|code| slip(chance, code));
+    slipped.map_or_else(|| bad_name(chance, good), |code| code.to_vec())
 }
 
 fn bad_date(chance: &mut Chance, good: &[u8]) -> Vec<u8> {

@@ -3,6 +3,7 @@
 
 use super::calendar::{about_closing_day, working_day};
 use super::chance::Chance;
+use super::codes::checked;
 use super::draft::{ClassRow, Draft, OffsetRow, SecurityRow, TradeRow, LAST_CALCULATION, LAST_DAY};
 
 /// How many rows of each kind, and whether fields are to be long and all trades margined.
@@ -145,24 +146,27 @@ fn offset(chance: &mut Chance, classes: &[ClassRow], long: bool) -> OffsetRow {
     OffsetRow { first, second, factor: factor(chance, long) }
 }
 
-fn code(chance: &mut Chance, prefix: &[u8; 12], shared: usize) -> [u8; 12] {
+/// A code that begins as another does, with few letters among its nine or with many.
+fn code(chance: &mut Chance, prefix: &[u8; 12], shared: usize, few_letters: bool) -> [u8; 12] {
     const LETTERS: &[u8] = b"ABCDEFGHIJKLMNOPQRSTUVWXYZ0123456789";
     let mut code = *prefix;
-    for (at, byte) in code.iter_mut().enumerate().skip(shared) {
+    for (at, byte) in code[..11].iter_mut().enumerate().skip(shared) {
         let from = match at {
             0 | 1 => &LETTERS[..26],
-            11 => &LETTERS[26..],
+            _ if few_letters && !chance.one_in(12) => &LETTERS[26..],
             _ => LETTERS,
         };
         *byte = if chance.one_in(6) { *chance.pick(&[from[0], from[from.len() - 1]]) } else { *chance.pick(from) };
     }
-    code
+    checked(code)
 }
 
-/// Different codes, rising; in some sheets they differ only near their ends.
+/// Different codes, rising; in some sheets they differ only near their ends. The last digit follows from the others, so
+/// few codes can do with one place before it, and many with two.
 fn codes(chance: &mut Chance, count: usize) -> Vec<[u8; 12]> {
-    let prefix = code(chance, &[0; 12], 0);
-    let most = if count < 8 { 11 } else { 9 };
+    let few_letters = chance.one_in(2);
+    let prefix = code(chance, &[0; 12], 0, few_letters);
+    let most = if count < 8 { 10 } else { 9 };
     let shared = if chance.one_in(2) { 0 } else { chance.below(most + 1) as usize };
     let mut codes = Vec::with_capacity(count);
     while {
@@ -171,7 +175,7 @@ fn codes(chance: &mut Chance, count: usize) -> Vec<[u8; 12]> {
         codes.len() < count
     } {
         for _ in codes.len()..count {
-            codes.push(code(chance, &prefix, shared));
+            codes.push(code(chance, &prefix, shared, few_letters));
         }
     }
     codes
