@@ -10,7 +10,7 @@ use Rattle.paper.specs.Units.{Text, Room}
 use Rattle.paper.specs.Lists.{joinedUp}
 use Rattle.paper.specs.Rounding.{nearest, rounded}
 use Rattle.paper.specs.Days.{isOpen, workingAfter}
-use Rattle.paper.specs.Text.{ascii, lines, numberIn, dateIn, isCode, digits}
+use Rattle.paper.specs.Text.{ascii, lines, numberIn, dateIn, hasCodeForm, hasCheckDigit, isCode, digits}
 use Rattle.paper.specs.Rows.{Tables}
 use Rattle.paper.specs.Currencies.{currencies}
 use Rattle.paper.specs.Valuation.{valuedFrom, valuedIn}
@@ -102,7 +102,7 @@ otherReport =
     ∷ [])
 
 first-row-printed : firstRowAnswer 32_768 example.sheet ≡ accepted otherReport
-unfolding nearest rounded isOpen workingAfter lines numberIn dateIn isCode digits valuedFrom rowsFrom readSheet summed offsetRow offsetAll classLine currencyLines
+unfolding nearest rounded isOpen workingAfter lines numberIn dateIn hasCodeForm hasCheckDigit isCode digits valuedFrom rowsFrom readSheet summed offsetRow offsetAll classLine currencyLines
 first-row-printed = refl
 
 pub first-row-shut-out : Demand2 firstRowKit → ⊥

@@ -13,7 +13,7 @@ use lib.ListN.{length, take, drop, take-append-drop}
 use lib.Seq.{drop-drop}
 use Rattle.paper.specs.Units.{Byte, Text}
 use Rattle.paper.specs.Lists.{every}
-use Rattle.paper.specs.Text.{LF, semicolon, same, isDigit, isLetter, isNumber, isCode, isCurrency}
+use Rattle.paper.specs.Text.{LF, semicolon, same, isDigit, isLetter, isNumber, hasCodeForm, hasCheckDigit, isCode, isCurrency}
 use Rattle.paper.specs.Text.{orBlank, blankOr, digits, signedDigits}
 use Rattle.paper.specs.Rows.{Kind, government, corporate, inflation, floating}
 use Rattle.paper.specs.Rows.{Trade, repo, cash, Side, seller, purchaser}
@@ -134,15 +134,20 @@ pub side-plain : (k : Side) → every plain (sideLetter k) ≡ true
 side-plain seller = refl
 side-plain purchaser = refl
 
--- What a code is made of
-record CodeParts (t : Text) : Type 0 where
-  twelve : length t ≡ 12
-  letters : every isLetter (take 2 t) ≡ true
-  mixed : every (λ b. isLetter b || isDigit b) (take 9 (drop 2 t)) ≡ true
-  digit : every isDigit (drop 11 t) ≡ true
-
-code-parts : (t : Text) → isCode t ≡ true → CodeParts t
+-- What is a code has the form of one
+pub code-form : (t : Text) → isCode t ≡ true → hasCodeForm t ≡ true
 unfolding isCode
+code-form t h = both (hasCodeForm t) (hasCheckDigit t) h .0
+
+-- What that form is made of
+pub record CodeParts (t : Text) : Type 0 where
+  pub twelve : length t ≡ 12
+  pub letters : every isLetter (take 2 t) ≡ true
+  pub mixed : every (λ b. isLetter b || isDigit b) (take 9 (drop 2 t)) ≡ true
+  pub digit : every isDigit (drop 11 t) ≡ true
+
+pub code-parts : (t : Text) → hasCodeForm t ≡ true → CodeParts t
+unfolding hasCodeForm
 code-parts t h =
     let length? = eqb (length t) 12 in
     let letters? = every isLetter (take 2 t) in
@@ -155,7 +160,7 @@ code-parts t h =
 -- A code has no marks
 pub code-plain : (t : Text) → isCode t ≡ true → every plain t ≡ true
 code-plain t h =
-    let c = code-parts t h in
+    let c = code-parts t (code-form t h) in
     split 2 t (every-weaker isLetter plain letter-plain (take 2 t) (c .letters))
     (split 9 (drop 2 t) (every-weaker (λ b. isLetter b || isDigit b) plain mixed-plain (take 9 (drop 2 t)) (c .mixed))
     (rw (drop-drop 9 2 t) (every-weaker isDigit plain digit-plain (drop 11 t) (c .digit))))
@@ -172,7 +177,7 @@ code-plain t h =
 
 -- A code has twelve bytes
 pub code-length : (t : Text) → isCode t ≡ true → length t ≡ 12
-code-length t h = code-parts t h .twelve
+code-length t h = code-parts t (code-form t h) .twelve
 
 -- A currency has no marks
 pub currency-plain : (t : Text) → isCurrency t ≡ true → every plain t ≡ true

@@ -7,6 +7,7 @@ pub mod Order
 pub mod Lines
 pub mod Digits
 pub mod Fields
+pub mod Codes
 pub mod Rules
 pub mod Currencies
 pub mod Outcomes

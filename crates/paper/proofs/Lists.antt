@@ -3,7 +3,7 @@ use Prim.Native.Nat.{ℕ, zero, suc, _+_, _*_, _≤_, _<_}
 use native.Mathlib.Nat.{suc-mul, le-of-suc-le-suc, not-suc-le-zero}
 use native.Mathlib.Omega.{arith}
 use mathlib.Core.Bool.{Bool, true, false, not, _&&_, _||_}
-use mathlib.Core.List.{List, [], _∷_, _++_, map}
+use mathlib.Core.List.{List, [], _∷_, _++_, map, append-assoc}
 use mathlib.Core.Option.{Option, none, some, Option·some-injective, Option·none-ne-some}
 use mathlib.Core.Path.{_≡_, refl, sym, ap, _∙_, subst}
 use borrow.Author.Tests.{leb-true, le-leb}
@@ -247,13 +247,14 @@ joined-most piece most (r ∷ rs) (cons small rest) =
     )
 
 -- The pieces of two lists together are those of the first and those of the second
+pub joined-parts : {A R : Type 0} (piece : R → List A) (xs ys : List R)
+    → joinedUp (map piece (xs ++ ys)) ≡ joinedUp (map piece xs) ++ joinedUp (map piece ys)
+joined-parts piece [] ys = refl
+joined-parts piece (x ∷ xs) ys =
+    ap (λ (l : List _). piece x ++ l) (joined-parts piece xs ys) ∙ sym (append-assoc (piece x) (joinedUp (map piece xs)) (joinedUp (map piece ys)))
+
+-- And so are their lengths
 pub joined-append : {A R : Type 0} (piece : R → List A) (xs ys : List R)
     → length (joinedUp (map piece (xs ++ ys))) ≡ length (joinedUp (map piece xs)) + length (joinedUp (map piece ys))
-joined-append piece [] ys = omega arith
-joined-append piece (x ∷ xs) ys =
-    omega (
-      arith,
-      length-append (piece x) (joinedUp (map piece (xs ++ ys))),
-      length-append (piece x) (joinedUp (map piece xs)),
-      joined-append piece xs ys,
-    )
+joined-append piece xs ys =
+    ap length (joined-parts piece xs ys) ∙ length-append (joinedUp (map piece xs)) (joinedUp (map piece ys))

@@ -3,7 +3,7 @@ use mathlib.Core.Path.{_≡_, refl}
 use Rattle.paper.specs.Units.{Text}
 use Rattle.paper.specs.Rounding.{nearest, rounded}
 use Rattle.paper.specs.Days.{isOpen, workingAfter}
-use Rattle.paper.specs.Text.{ascii, lines, numberIn, dateIn, isCode, digits}
+use Rattle.paper.specs.Text.{ascii, lines, numberIn, dateIn, hasCodeForm, hasCheckDigit, isCode, digits}
 use Rattle.paper.specs.Valuation.{valuedFrom}
 use Rattle.paper.specs.Sheet.{rowsFrom, readSheet}
 use Rattle.paper.specs.Offsetting.{summed, offsetRow, offsetAll}
@@ -41,5 +41,5 @@ report =
 
 -- The claim
 pub printed : answer 32_768 sheet ≡ accepted report
-unfolding nearest rounded isOpen workingAfter lines numberIn dateIn isCode digits valuedFrom rowsFrom readSheet summed offsetRow offsetAll classLine currencyLines reportOf
+unfolding nearest rounded isOpen workingAfter lines numberIn dateIn hasCodeForm hasCheckDigit isCode digits valuedFrom rowsFrom readSheet summed offsetRow offsetAll classLine currencyLines reportOf
 printed = refl

@@ -5,6 +5,7 @@ pub mod Rounding
 pub mod Days
 pub mod Calendar
 pub mod Text
+pub mod Codes
 pub mod Rows
 pub mod Currencies
 pub mod Valuation

@@ -14,7 +14,7 @@ use Rattle.paper.specs.Lists.{joinedUp, given}
 use Rattle.paper.specs.Signs.{aboveZero, belowZero}
 use Rattle.paper.specs.Rounding.{nearest, rounded}
 use Rattle.paper.specs.Days.{day, isDay, isOpen, workingAfter}
-use Rattle.paper.specs.Text.{ascii, LF, semicolon, pieces, lines, parted, isDigit, isLetter, numberIn, dateIn, isCode, digits}
+use Rattle.paper.specs.Text.{ascii, LF, semicolon, pieces, lines, parted, isDigit, isLetter, numberIn, dateIn, hasCodeForm, hasCheckDigit, isCode, digits}
 use Rattle.paper.specs.Rows.{Kind, government, corporate, inflation, floating, cash, seller, ClassRow, PriorityRow, SecurityRow, TradeRow, kindIn, readPriority}
 use Rattle.paper.specs.Valuation.{valuedFrom, valuedIn}
 use Rattle.paper.specs.Refusals.{Outcome, refused, accepted, Rule, judged, isDuration, classRules, priorityRules, securityRules, tradeRules}
@@ -78,7 +78,7 @@ bond code currency =
 abbrev below : ℕ → String → Number
 below many currency =
     let above : List String = take many ("AAA" ∷ "BBB" ∷ "CCC" ∷ "DDD" ∷ "EEE" ∷ "FFF" ∷ "GGG" ∷ "HHH" ∷ []) in
-    first (securityRules classes (map (bond "AA0000000016") above) (bond "ZZ0000000016" currency))
+    first (securityRules classes (map (bond "AA0000000014") above) (bond "ZZ0000000016" currency))
 
 -- A T row
 abbrev sale : TradeRow
@@ -114,8 +114,8 @@ Limits =
     × (line 6 3 ("" ∷ "0" ∷ "10000" ∷ "10001" ∷ []) ≡ 6 ∷ ok ∷ ok ∷ 6 ∷ [])
     -- S: code, rising; currency; kind; duration 1..1,000,000, and the class for it; price 1..20,000,000; coupon 0..2,000,000;
     -- payments a year 1, 2 or 4; next coupon date 1 to 400 days after 20190101
-    × (line 8 1 ("FR0011337880" ∷ "FR0011337881" ∷ "ZZZZZZZZZZZ9" ∷ []) ≡ 9 ∷ ok ∷ ok ∷ [])
-    × (line 8 1 ("Z00000000016" ∷ "ZZ00000000-6" ∷ "ZZ000000001Z" ∷ "ZZ000000001" ∷ "ZZ00000000016" ∷ "" ∷ []) ≡ 6 ∷ 6 ∷ 6 ∷ 6 ∷ 6 ∷ 6 ∷ [])
+    × (line 8 1 ("FR0011337880" ∷ "FR0011337898" ∷ "ZZZZZZZZZZZ6" ∷ []) ≡ 9 ∷ ok ∷ ok ∷ [])
+    × (line 8 1 ("Z00000000014" ∷ "ZZ00000000-6" ∷ "ZZ000000001Z" ∷ "ZZ000000002" ∷ "ZZ00000000168" ∷ "" ∷ []) ≡ 6 ∷ 6 ∷ 6 ∷ 6 ∷ 6 ∷ 6 ∷ [])
     × (line 8 2 ("EU" ∷ "EU1" ∷ "USD" ∷ "EURO" ∷ []) ≡ 6 ∷ 6 ∷ ok ∷ 6 ∷ [])
     × (line 8 3 ("G" ∷ "C" ∷ "I" ∷ "F" ∷ "" ∷ []) ≡ ok ∷ 11 ∷ 6 ∷ 6 ∷ 6 ∷ [])
     × (line 8 4 ("" ∷ "0" ∷ "1" ∷ "47500" ∷ "47501" ∷ "1000000" ∷ "1000001" ∷ []) ≡ 6 ∷ 6 ∷ ok ∷ ok ∷ 11 ∷ 11 ∷ 6 ∷ [])
@@ -130,7 +130,7 @@ Limits =
     -- T: R or C; S or P; a code of the sheet; nominal 1..100,000,000; amount 1..30,000,000,000; a repo's last date 1 to 730
     -- days after 20190603; rate -200,000..200,000; both blank for cash
     × (line 9 1 ("R" ∷ "C" ∷ "" ∷ []) ≡ ok ∷ 6 ∷ 6 ∷ []) × (line 9 2 ("S" ∷ "P" ∷ "" ∷ []) ≡ ok ∷ ok ∷ 6 ∷ [])
-    × (line 9 3 ("ZZ0000000016" ∷ "ZZ0000000017" ∷ "" ∷ []) ≡ ok ∷ 10 ∷ 6 ∷ [])
+    × (line 9 3 ("ZZ0000000016" ∷ "ZZ0000000024" ∷ "ZZ0000000025" ∷ "" ∷ []) ≡ ok ∷ 10 ∷ 6 ∷ 6 ∷ [])
     × (line 9 4 ("" ∷ "0" ∷ "1" ∷ "100000000" ∷ "100000001" ∷ []) ≡ 6 ∷ 6 ∷ ok ∷ ok ∷ 6 ∷ [])
     × (line 9 5 ("" ∷ "0" ∷ "1" ∷ "30000000000" ∷ "30000000001" ∷ []) ≡ 6 ∷ 6 ∷ ok ∷ ok ∷ 6 ∷ [])
     × (line 9 7 ("20190603" ∷ "20190604" ∷ "20210602" ∷ "20210603" ∷ "" ∷ []) ≡ 7 ∷ ok ∷ ok ∷ 7 ∷ 7 ∷ [])
@@ -142,7 +142,7 @@ Limits =
     -- Rows: at most 40 C, 200 O, 200 S, 500 T; at most 8 currencies
     × (map (λ above. first (classRules (replicate above (class 1 government (some 5))) (class 40 corporate (some 5)))) (39 ∷ 40 ∷ []) ≡ ok ∷ 8 ∷ [])
     × (map (λ above. first (priorityRules classes (replicate above priority) priority)) (199 ∷ 200 ∷ []) ≡ ok ∷ 8 ∷ [])
-    × (map (λ above. first (securityRules classes (replicate above (bond "AA0000000016" "EUR")) (bond "ZZ0000000016" "EUR"))) (199 ∷ 200 ∷ [])
+    × (map (λ above. first (securityRules classes (replicate above (bond "AA0000000014" "EUR")) (bond "ZZ0000000016" "EUR"))) (199 ∷ 200 ∷ [])
     ≡ ok ∷ 8 ∷ [])
     × (map (λ above. first (tradeRules (day 20_190_612) (bond "ZZ0000000016" "EUR" ∷ []) (replicate above sale) sale)) (499 ∷ 500 ∷ []) ≡ ok ∷ 8 ∷ [])
     × (below 7 "EUR" ≡ ok) × (below 8 "EUR" ≡ 8) × (below 8 "AAA" ≡ ok)
@@ -191,5 +191,5 @@ Limits =
 
 -- The claim
 pub limits : Limits
-unfolding nearest rounded isOpen workingAfter lines numberIn dateIn isCode digits valuedFrom rowsFrom readSheet summed offsetRow offsetAll classLine currencyLines reportOf
+unfolding nearest rounded isOpen workingAfter lines numberIn dateIn hasCodeForm hasCheckDigit isCode digits valuedFrom rowsFrom readSheet summed offsetRow offsetAll classLine currencyLines reportOf
 limits = (refl, refl, refl, refl, refl, refl, refl, refl, refl, refl, refl, refl, refl, refl, refl, refl, refl, refl, refl, refl, refl, refl, refl, refl, refl, refl, refl, refl, refl, refl, refl, refl, refl, refl, refl, refl, refl, refl, refl, refl, refl, refl, refl, refl, refl, refl, refl, refl, refl, refl, refl, refl, refl, refl, refl, refl, refl, refl, refl, refl, refl, refl, refl, refl, refl, refl, refl, refl, refl, refl, refl, refl, refl, refl, refl, refl, refl, refl, refl, refl, refl, refl, refl, refl, refl, refl, refl, refl)

@@ -4,13 +4,13 @@ use Prim.Native.String as S
 use Prim.Native.String.{String}
 use Prim.Native.Char.{code}
 use mathlib.Core.Bool.{Bool, true, false, cond, _&&_, _||_}
-use mathlib.Core.List.{List, [], _∷_, _++_}
+use mathlib.Core.List.{List, [], _∷_, _++_, map, reverse}
 use mathlib.Core.Option.{Option, none, some, Option·map}
 use lib.Dec.{eqb, leb, ltb}
 use lib.IntN.{ℤ, pos, negsuc}
 use lib.ListN.{length, take, drop}
-use Rattle.paper.specs.Units.{Byte, Text, Fields, Date}
-use Rattle.paper.specs.Lists.{between, every, when, _>>=_}
+use Rattle.paper.specs.Units.{Byte, Digit, Text, Fields, Date}
+use Rattle.paper.specs.Lists.{between, joinedUp, every, when, _>>=_}
 
 -- Letters written out, as bytes
 abbrev pub ascii : String → Text
@@ -116,13 +116,36 @@ signedIn (b ∷ bs) = elim (eqb b hyphen) [ true ↦ numberIn bs >>= below | fal
 unfoldable pub dateIn : Text → Date
 dateIn t = cond (eqb (length t) 8 && every isDigit t) (decimal 0 t) 0
 
--- A code: two letters, nine letters or digits, one digit
-unfoldable pub isCode : Text → Bool
-isCode t =
+-- The form of a code: two letters, nine letters or digits, one digit
+unfoldable pub hasCodeForm : Text → Bool
+hasCodeForm t =
     eqb (length t) 12
     && every isLetter (take 2 t)
     && every (λ b. isLetter b || isDigit b) (take 9 (drop 2 t))
     && every isDigit (drop 11 t)
+
+-- A byte of a code in digits (02, b): a digit is one, a letter is two, those of 10 for A to 35 for Z
+abbrev pub inDigits : Byte → List Digit
+inDigits b = cond (isLetter b) ((b - 55) / 10 ∷ (b - 55) % 10 ∷ []) ((b - 48) ∷ [])
+
+-- What a digit counts when it is doubled: 14 counts by its digits, 1 + 4
+abbrev pub doubled : Digit → ℕ
+doubled d = 2 * d / 10 + 2 * d % 10
+
+-- What digits count where every second is doubled, with the first or with the next to begin
+abbrev pub counted : Bool → List Digit → ℕ
+counted first [] = 0
+counted true (d ∷ ds) = doubled d + counted false ds
+counted false (d ∷ ds) = d + counted true ds
+
+-- Whether a code's last digit checks it (02, b): its digits, counted from the right with the one before the last doubled
+-- first, make a number that ends in 0
+unfoldable pub hasCheckDigit : Text → Bool
+hasCheckDigit t = eqb (counted false (reverse (joinedUp (map inDigits t))) % 10) 0
+
+-- A code
+unfoldable pub isCode : Text → Bool
+isCode t = hasCodeForm t && hasCheckDigit t
 
 -- A currency: three letters
 abbrev pub isCurrency : Text → Bool

@@ -8,6 +8,10 @@ use mathlib.Core.List.{List}
 abbrev pub Byte : Type 0
 Byte = ℕ
 
+-- A decimal digit as a number: 0..9
+abbrev pub Digit : Type 0
+Digit = ℕ
+
 -- Bytes in their order: a sheet, a line, a field, a report, a buffer
 abbrev pub Text : Type 0
 Text = List Byte
