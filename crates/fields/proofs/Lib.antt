@@ -4,3 +4,4 @@ pub mod Letters
 pub mod Orders
 pub mod Places
 pub mod Numbers
+pub mod Checks

@@ -3,7 +3,7 @@
 use Prim.Native.Nat.{ℕ, zero, suc, _+_, _-_, _*_, _^_, _≤_, _<_}
 use native.Mathlib.Nat.{pow-succ', lt-trans}
 use native.Mathlib.Omega.{arith}
-use mathlib.Core.Bool.{Bool, true, false, _&&_, _||_}
+use mathlib.Core.Bool.{Bool, true, false, _||_}
 use mathlib.Core.List.{[], _∷_}
 use mathlib.Core.Path.{_≡_, refl, sym, _∙_}
 use borrow.Author.Tests.{eqb-true, eq-eqb, ne-eqb, ltb-true, lt-ltb, le-ltb}
@@ -13,7 +13,8 @@ use lib.Seq.{drop-drop}
 use Rattle.paper.specs.Units.{Byte, Text}
 use Rattle.paper.specs.Lists.{between, every}
 use Rattle.paper.specs.Text.{same, before, isDigit, isLetter, isCode}
-use Rattle.paper.proofs.Lists.{never, both, within, bounds, every-cons, every-append, every-weaker}
+use Rattle.paper.proofs.Lists.{never, within, bounds, every-cons, every-append, every-weaker}
+use Rattle.paper.proofs.Fields.{code-form, code-parts}
 use Rattle.paper.proofs.Order.{same-refl, before-self, before-not-after, before-not-same, after-not-same}
 use Rattle.paper.proofs.Order.{Compared, first, equal, second, compared}
 use Rattle.fields.specs.Values.{codeFrom, codeNumber, codeOr}
@@ -42,7 +43,7 @@ letter-within b h = let d = bounds 65 90 b h in within 48 90 b (omega arith) (om
 digit-within : (b : Byte) → isDigit b ≡ true → between 48 90 b ≡ true
 digit-within b h = let d = bounds 48 57 b h in within 48 90 b (omega arith) (omega arith)
 
-mixed-within : (b : Byte) → (isLetter b || isDigit b) ≡ true → between 48 90 b ≡ true
+pub mixed-within : (b : Byte) → (isLetter b || isDigit b) ≡ true → between 48 90 b ≡ true
 mixed-within b e = go (isLetter b) refl
   where
     go : (l : Bool) → isLetter b ≡ l → between 48 90 b ≡ true
@@ -51,19 +52,13 @@ mixed-within b e = go (isLetter b) refl
 
 -- A code is eleven such bytes and a digit
 pub code-coded : (t : Text) → isCode t ≡ true → Coded 11 t
-unfolding isCode
 code-coded t h =
-    let length? = eqb (length t) 12 in
-    let letters? = every isLetter (take 2 t) in
-    let mixed? = every (λ b. isLetter b || isDigit b) (take 9 (drop 2 t)) in
-    let c = both (length? && letters? && mixed?) (every isDigit (drop 11 t)) h in
-    let b = both (length? && letters?) mixed? (c .0) in
-    let a = both length? letters? (b .0) in
-    by-parts 11 t (eqb-true (length t) 12 (a .0))
-    (split 2 t (every-weaker isLetter (between 48 90) letter-within (take 2 t) (a .1))
-    (split 9 (drop 2 t) (every-weaker (λ b. isLetter b || isDigit b) (between 48 90) mixed-within (take 9 (drop 2 t)) (b .1))
-    (rw (drop-drop 9 2 t) (every-weaker isDigit (between 48 90) digit-within (drop 11 t) (c .1)))))
-    (c .1)
+    let c = code-parts t (code-form t h) in
+    by-parts 11 t (c .twelve)
+    (split 2 t (every-weaker isLetter (between 48 90) letter-within (take 2 t) (c .letters))
+    (split 9 (drop 2 t) (every-weaker (λ b. isLetter b || isDigit b) (between 48 90) mixed-within (take 9 (drop 2 t)) (c .mixed))
+    (rw (drop-drop 9 2 t) (every-weaker isDigit (between 48 90) digit-within (drop 11 t) (c .digit)))))
+    (c .digit)
   where
     split : (k : ℕ) (s : Text) → every (between 48 90) (take k s) ≡ true → every (between 48 90) (drop k s) ≡ true
         → every (between 48 90) s ≡ true

@@ -1,13 +1,14 @@
 -- What stands in a field, as the code holds it: the paper's reading with the range that the rules ask for.
-use Prim.Native.Nat.{ℕ, _+_, _-_, _*_}
-use mathlib.Core.Bool.{Bool, true, false, cond, _||_}
-use mathlib.Core.List.{[], _∷_}
+use Prim.Native.Nat.{ℕ, zero, suc, _+_, _-_, _*_}
+use mathlib.Core.Bool.{Bool, true, false, cond, _&&_, _||_}
+use mathlib.Core.List.{List, [], _∷_, reverse}
 use mathlib.Core.Option.{Option, none, some}
 use lib.Dec.{eqb}
 use lib.IntN.{ℤ}
+use lib.ListN.{take, drop}
 use Rattle.paper.specs.Units.{Byte, Text, Duration, Rate}
 use Rattle.paper.specs.Lists.{between, every, when, _>>=_}
-use Rattle.paper.specs.Text.{same, before, isDigit, isLetter, decimal, numberIn, signedIn, isCode}
+use Rattle.paper.specs.Text.{same, before, isDigit, isLetter, decimal, numberIn, signedIn, inDigits, counted, hasCheckDigit, isCode}
 use Rattle.paper.specs.Rows.{Kind, government, corporate, inflation, floating, Trade, repo, cash, Side, seller, purchaser}
 use Rattle.paper.specs.Refusals.{isRate}
 use Rattle.fields.specs.declared.Value.{Value}
@@ -81,6 +82,25 @@ codeFrom n (b ∷ c ∷ t) = codeFrom (43 * n + (b - 48)) (c ∷ t)
 -- The whole code
 abbrev pub codeNumber : Text → ℕ
 codeNumber = codeFrom 0
+
+-- What a byte of a code counts, in two numbers, the second times 256: where the last of its digits counts once, and where it is
+-- doubled. For a byte that no code has, the highest number of 16 bits, which no byte of a code counts
+abbrev pub worthOf : Byte → ℕ
+worthOf b =
+    cond (isLetter b || isDigit b) (counted false (reverse (inDigits b)) + 256 * counted true (reverse (inDigits b))) 65535
+
+-- The same of so many bytes from a byte on, and from `0` to `Z`
+abbrev pub worthsFrom : ℕ → Byte → List ℕ
+worthsFrom zero b = []
+worthsFrom (suc k) b = worthOf b ∷ worthsFrom k (suc b)
+
+abbrev pub worths : List ℕ
+worths = worthsFrom 43 48
+
+-- Twelve bytes, of which eleven are letters or digits, the last is a digit, and checks them, as their number
+abbrev pub checkedOr : Text → ℕ
+checkedOr t =
+    cond (every (λ b. isLetter b || isDigit b) (take 11 t) && every isDigit (drop 11 t) && hasCheckDigit t) (codeNumber t) 18446744073709551615
 
 -- A text that is a code as its number; for any other the highest number of 64 bits, which no code has
 abbrev pub codeOr : Text → ℕ

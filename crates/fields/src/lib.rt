@@ -7,9 +7,9 @@ ghost use mathlib.Core.Option.{none, Option·map};
 ghost use lib.ListN.{length, getD};
 ghost use lib.Seq.{slice};
 ghost use Rattle.paper.specs.Lists.{between, every};
-ghost use Rattle.paper.specs.Text.{LF, numberIn, dateIn, isCode, isCurrency};
+ghost use Rattle.paper.specs.Text.{LF, numberIn, dateIn, isCurrency};
 ghost use Rattle.paper.specs.Rows.{kindIn, tradeIn, sideIn};
-ghost use Rattle.fields.specs.Values.{value, signed, digitsIn, digitsOr, rangedIn, rateIn, durationIn, kindNumber, tradeNumber, sideNumber, inSet, codeNumber, codeOr, orderOf};
+ghost use Rattle.fields.specs.Values.{value, signed, digitsIn, digitsOr, rangedIn, rateIn, durationIn, kindNumber, tradeNumber, sideNumber, inSet, worths, checkedOr, codeOr, orderOf};
 ghost use Rattle.fields.specs.Places.{endedLength, lineAt};
 
 pub type Place = usize; // in the sheet, in bytes from its start
@@ -316,39 +316,92 @@ fn all_in(
     true
 }
 
-// Whether a field is a code: two letters, nine letters or digits, one digit.
-pub fn is_code(s: &[u8], at: Place, end: Place) -> bool
-    requires { ⌜ (at ≤ end) × (end ≤ length (now s)) ⌝ }
-    ensures { λ r. ⌜ r ≡ isCode (slice at end (now (s .entry))) ⌝ }
-{
-    if end - at != 12 {
-        return false;
-    }
-    if all_in(s, at, at + 2, 0) {
-        if all_in(s, at + 2, at + 11, 2) {
-            all_in(s, at + 11, end, 1)
-        } else {
-            false
-        }
-    } else {
-        false
-    }
-}
+// What a byte of a code counts (02, b), from `0` to `Z`, in two numbers, the second times 256: where the last of its digits
+// counts once, and where it is doubled. 0xffff for a byte that no code has.
+const WORTH: [u16; 43] = [
+    0x0000,
+    0x0201,
+    0x0402,
+    0x0603,
+    0x0804,
+    0x0105,
+    0x0306,
+    0x0507,
+    0x0708,
+    0x0909,
+    0xffff,
+    0xffff,
+    0xffff,
+    0xffff,
+    0xffff,
+    0xffff,
+    0xffff,
+    0x0102,
+    0x0303,
+    0x0504,
+    0x0705,
+    0x0906,
+    0x0207,
+    0x0408,
+    0x0609,
+    0x080a,
+    0x0a0b,
+    0x0204,
+    0x0405,
+    0x0606,
+    0x0807,
+    0x0a08,
+    0x0309,
+    0x050a,
+    0x070b,
+    0x090c,
+    0x0b0d,
+    0x0306,
+    0x0507,
+    0x0708,
+    0x0909,
+    0x0b0a,
+    0x040b,
+];
 
-// The number of the code at a place: it orders as codes do, and two codes have two numbers.
-pub fn code_number(s: &[u8], at: Place) -> u64
-    requires { ⌜ isCode (slice at (at + 12) (now s)) ≡ true ⌝ }
-    ensures { λ r. ⌜ r ≡ codeNumber (slice at (at + 12) (now (s .entry))) ⌝ }
+// Twelve bytes as a code's number where eleven letters or digits and a digit stand there, and the digit checks them; else the
+// highest number. One pass: it makes the number, and keeps what the digits so far count, both where the last of them counts
+// once and where it is doubled, since only the end tells which.
+fn checked_number(s: &[u8], at: Place, worth: &[u16; 43]) -> u64
+    requires { ⌜ (at + 12 ≤ length (now s)) × (now worth ≡ worths) ⌝ }
+    ensures { λ r. ⌜ r ≡ checkedOr (slice at (at + 12) (now (s .entry))) ⌝ }
 {
     let mut n: u64 = 0; // the bytes so far, in base 43
+    let mut counts: u16 = 0; // as in the table, of all digits so far
     let mut i: usize = 0; // bytes
     while i < 11 {
-        let b = s[at + i] as u64; // a byte
-        n = 43 * n + (b - 48);
+        let b = s[at + i]; // a byte
+        if !is_within(b, 48, 90) {
+            return 18446744073709551615;
+        }
+        let more = worth[(b - 48) as usize]; // as in the table
+        if more == 0xffff {
+            return 18446744073709551615;
+        }
+        n = 43 * n + ((b - 48) as u64);
+        // A letter is two digits: what was doubled before it still is. Behind a digit it is not.
+        let moved = if b < 65 {
+            counts / 256 + 256 * (counts % 256)
+        } else {
+            counts
+        }; // as in the table
+        counts = moved + more;
         i += 1;
     }
-    let last = s[at + 11] as u64; // a byte
-    10 * n + (last - 48)
+    let last = s[at + 11]; // a byte
+    if !is_within(last, 48, 57) {
+        return 18446744073709551615;
+    }
+    let digit = last - 48; // 0 to 9
+    if (counts / 256 + (digit as u16)) % 10 != 0 {
+        return 18446744073709551615;
+    }
+    10 * n + (digit as u64)
 }
 
 // A field that is a code as its number, the highest number for any other.
@@ -356,10 +409,14 @@ pub fn code_in(s: &[u8], at: Place, end: Place) -> u64
     requires { ⌜ (at ≤ end) × (end ≤ length (now s)) ⌝ }
     ensures { λ r. ⌜ r ≡ codeOr (slice at end (now (s .entry))) ⌝ }
 {
-    if !is_code(s, at, end) {
+    if end - at != 12 {
         return 18446744073709551615;
     }
-    code_number(s, at)
+    if !all_in(s, at, at + 2, 0) {
+        return 18446744073709551615;
+    }
+    let worth = WORTH; // lent, since a constant is written to the stack wherever it is indexed
+    checked_number(s, at, &worth)
 }
 
 // Whether a field is a currency: three letters.

@@ -16,21 +16,21 @@ use Rattle.paper.specs.Codes.{alike, evenLetter, hidden, Checked}
 use Rattle.paper.proofs.Lists.{never, both, bounds, joined-parts}
 
 -- Which is doubled first behind so many digits
-abbrev behind : Bool → List Digit → Bool
+abbrev pub behind : Bool → List Digit → Bool
 behind first [] = first
 behind first (d ∷ ds) = behind (not first) ds
 
 -- Digits one behind the other count what each part counts
-counted-append : (first : Bool) (ds es : List Digit) → counted first (ds ++ es) ≡ counted first ds + counted (behind first ds) es
+pub counted-append : (first : Bool) (ds es : List Digit) → counted first (ds ++ es) ≡ counted first ds + counted (behind first ds) es
 counted-append first [] es = sym (zero-add _)
 counted-append true (d ∷ ds) es = ap (λ (n : ℕ). doubled d + n) (counted-append false ds es) ∙ sym (add-assoc (doubled d) (counted false ds) _)
 counted-append false (d ∷ ds) es = ap (λ (n : ℕ). d + n) (counted-append true ds es) ∙ sym (add-assoc d (counted true ds) _)
 
 -- The digits of a text from its end
-abbrev fromEnd : Text → List Digit
+abbrev pub fromEnd : Text → List Digit
 fromEnd t = reverse (joinedUp (map inDigits t))
 
-from-end-append : (s t : Text) → fromEnd (s ++ t) ≡ fromEnd t ++ fromEnd s
+pub from-end-append : (s t : Text) → fromEnd (s ++ t) ≡ fromEnd t ++ fromEnd s
 from-end-append s t = ap reverse (joined-parts inDigits s t) ∙ reverse-append (joinedUp (map inDigits s)) (joinedUp (map inDigits t))
 
 -- What a text counts, by what stands behind a part of it and by that part and what stands before it
@@ -40,12 +40,12 @@ parted s u t =
     ap (counted false) (from-end-append s (u ++ t) ∙ ap (λ (ds : List Digit). ds ++ fromEnd s) (from-end-append u t) ∙ append-assoc (fromEnd t) (fromEnd u) (fromEnd s))
     ∙ counted-append false (fromEnd t) (fromEnd u ++ fromEnd s)
 
--- A digit is one, and below 10
+-- A digit is no letter; it is one digit, below 10
+pub digit-letter : (b : Byte) → isDigit b ≡ true → isLetter b ≡ false
+digit-letter b h = let d = bounds 48 57 b h in simp (lt-leb 65 b (omega arith))
+
 digit-digits : (b : Byte) → isDigit b ≡ true → (inDigits b ≡ (b - 48) ∷ []) × (b - 48 < 10)
-digit-digits b h =
-    let d = bounds 48 57 b h in
-    let other : isLetter b ≡ false = simp (lt-leb 65 b (omega arith)) in
-    (rw other, omega arith)
+digit-digits b h = let d = bounds 48 57 b h in (rw (digit-letter b h), omega arith)
 
 -- What a digit counts when it is doubled: below 5, and from 5 on
 data Twice (d : Digit) (v : ℕ) : Type 0 where

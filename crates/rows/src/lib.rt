@@ -251,7 +251,7 @@ pub fn security_row(s: &[u8], years: &[Day; 400], at: Place, end: Place) -> Secu
         return SecurityRead::Refused(5);
     }
     let code = line.ends[0] + 1;
-    if !fields::is_code(s, code, line.ends[1]) {
+    if fields::code_in(s, code, line.ends[1]) == 18446744073709551615 {
         return SecurityRead::Refused(6);
     }
     let currency = line.ends[1] + 1;

@@ -1,52 +1,69 @@
--- `fields::code_in` meets its contract: a field that is a code ends twelve bytes on.
+-- `fields::code_in` meets its contract: the field's size decides first, then its two letters, and then all that is left.
 use Prim.Native.Nat.{_+_}
 use native.Mathlib.Omega.{arith}
-use mathlib.Core.Bool.{true, false}
-use mathlib.Core.Path.{_≡_, sym, ap, _∙_}
+use mathlib.Core.Bool.{Bool, true, false}
+use mathlib.Core.Path.{_≡_, refl, sym, ap, _∙_}
 use borrow.Author.Needs.{needs}
 use borrow.Author.Tests.{not-true, not-false}
-use lib.Seq.{slice, length-slice}
+use lib.Dec.{eqb}
+use lib.ListN.{length, take}
+use lib.Seq.{slice}
 use Rattle.paper.specs.Units.{Text}
-use Rattle.paper.specs.Text.{isCode}
-use Rattle.paper.proofs.Fields.{code-length}
-use Rattle.fields.specs.Values.{codeNumber}
+use Rattle.paper.specs.Lists.{every}
+use Rattle.paper.specs.Text.{isLetter}
 use Rattle.fields.specs.Places.{Place}
+use Rattle.fields.specs.Values.{checkedOr}
+use Rattle.fields.proofs.Parts.{part-sized, part-unsized, part-first}
+use Rattle.fields.proofs.Checks.{code-unsized, code-unlettered, code-rest}
 use Rattle.fields.proofs.code_in.Statement.{statement}
 use Rattle.fields.proofs.code_in.Tie as tie
 
--- The field
-abbrev field : tie.After-is-code → Text
-field c = let a = c .before .before .args in slice (a .at) (a .end) (a .s .now)
+-- The field, of twelve bytes
+abbrev field : tie.After-all-in → Text
+field c = let a = c .before .before .before .args in slice (a .at) (a .end) (a .s .now)
 
--- It is a code, and then ends twelve bytes on
-is-one : (c : tie.Else1) → isCode (field (c .before)) ≡ true
-is-one c = sym (c .before .is-code .ensures) ∙ not-false (c .before .is-code .result) (c .if1 .left)
-
-twelve-on : (c : tie.Else1) → c .before .before .before .args .end ≡ c .before .before .before .args .at + 12
-twelve-on c =
+sized : (c : tie.After-all-in) → eqb (length (field c)) 12 ≡ true
+sized c =
     let a = c .before .before .before .args in
-    omega (arith, length-slice (a .at) (a .end) (a .s .now) (omega arith), code-length (field (c .before)) (is-one c))
+    part-sized (a .s .now) (a .at) (a .end) 12 (omega arith) (c .before .if1 .left)
 
-is-code-requires : tie.Need-is-code-requires
-is-code-requires c κs = search needs
+-- Whether its first two are letters
+lettered : (c : tie.After-all-in) → every isLetter (take 2 (field c)) ≡ c .all-in .result
+lettered c =
+    let a = c .before .before .before .args in
+    ap (every isLetter) (part-first (a .s .now) (a .at) (a .end) 2 (omega (arith, c .before .if1 .left))) ∙ sym (c .all-in .ensures)
+
+sub-if1 : tie.Need-sub-if1
+sub-if1 c = search needs
 
 returns : tie.Need-returns
 returns c =
-    let none : isCode (field (c .before)) ≡ false = sym (c .before .is-code .ensures) ∙ not-true (c .before .is-code .result) (c .if1 .taken) in
-    rw none
+    let a = c .before .before .args in
+    code-unsized (slice (a .at) (a .end) (a .s .now)) (part-unsized (a .s .now) (a .at) (a .end) 12 (omega arith) (c .if1 .taken))
 
-code-number-requires : tie.Need-code-number-requires
-code-number-requires c κs =
-    let a = c .before .before .before .args in
-    ap (λ (end : Place). isCode (slice (a .at) end (a .s .now))) (sym (twelve-on c)) ∙ is-one c
+add-all-in : tie.Need-add-all-in
+add-all-in c = search needs
+
+all-in-requires : tie.Need-all-in-requires
+all-in-requires c κs = search needs
 
 returns-2 : tie.Need-returns-2
-returns-2 c =
-    let k = c .before in
+returns-2 c = code-unlettered (field (c .before)) (sized (c .before)) (lettered (c .before) ∙ not-true (c .before .all-in .result) (c .if2 .taken))
+
+checked-number-requires : tie.Need-checked-number-requires
+checked-number-requires c κs = search needs
+
+returns-3 : tie.Need-returns-3
+returns-3 c =
+    let e = c .before .before in
+    let k = e .before in
     let a = k .before .before .before .args in
-    c .code-number .ensures
-    ∙ ap (λ (end : Place). codeNumber (slice (a .at) end (a .s .now))) (sym (twelve-on k))
-    ∙ rw (is-one k)
+    let twelve : a .at + 12 ≡ a .end = omega (arith, k .before .if1 .left) in
+    c .checked-number .ensures
+    ∙ ap (λ (end : Place). checkedOr (slice (a .at) end (a .s .now))) twelve
+    ∙ code-rest (field k) (sized k) (lettered k ∙ not-false (k .all-in .result) (e .if2 .left))
 
 pub code-in-spec : {M : Type 1} → statement M
-code-in-spec = tie.close (tie.spec is-code-requires returns code-number-requires returns-2)
+code-in-spec =
+    tie.close
+    (tie.spec sub-if1 returns add-all-in all-in-requires returns-2 checked-number-requires returns-3)
