@@ -131,6 +131,10 @@ module _ (s t : Text) (s-code : isCode s ≡ true) (t-code : isCode t ≡ true) 
           let l = less 0 (code-coded t t-code) (code-coded s s-code) e in
           after-not-same s t e ∙ sym (ne-eqb (codeNumber s) (codeNumber t) (λ k. omega (arith, l)))
 
+-- A code is read as its number
+pub code-read : (t : Text) → isCode t ≡ true → codeOr t ≡ codeNumber t
+code-read t h = rw h
+
 -- What a field that is read as a code tells: one that is not the highest number is a code, and its number
 pub code-told : (t : Text) (n : ℕ) → n ≡ codeOr t → (n ≡ 18446744073709551615 → ⊥) → (isCode t ≡ true) × (n ≡ codeNumber t)
 code-told t n e other = go (isCode t) refl

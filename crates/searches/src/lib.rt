@@ -147,7 +147,8 @@ pub fn keys_of(
     let mut keys: [Key; 256] = [18446744073709551615; 256];
     let mut i: usize = 0; // codes
     while i < count {
-        keys[i] = fields::code_in(s, codes[i], codes[i] + 12);
+        let code = codes[i];
+        keys[i] = fields::code_in(s, code, code + 12);
         i += 1;
     }
     keys

@@ -23,6 +23,7 @@ use Rattle.rows.specs.Held.{heldSecurity}
 use Rattle.rows.specs.Reads.{securityRead}
 use Rattle.rows.specs.Terms.{paymentsIn}
 use Rattle.rows.specs.declared.SecurityRead.the-variants as securities
+use Rattle.fields.proofs.Numbers.{code-told, code-missed}
 use Rattle.fields.specs.Places.{Place, lineAt}
 use Rattle.rows.proofs.Lined.{part, Lined, line-asked, counted, lined}
 use Rattle.rows.proofs.Dates.{no-day, a-day, first-missing, second-missing, by-days}
@@ -50,7 +51,7 @@ by-fields : (c : tie.Else1) → securityRead (c .before .before .before .args .s
 by-fields c = security-there (c .before .before .before .args .s .now) (c .before .before .before .args .at) (c .before .line-at .result) (its-line c)
 
 code-is : (c : tie.Else2) → isCode (piece (c .before .before .before .before) 0) ≡ true
-code-is c = sym (c .before .is-code .ensures) ∙ not-false (c .before .is-code .result) (c .if2 .left)
+code-is c = code-told (piece (c .before .before .before .before) 0) (c .before .code-in .result) (c .before .code-in .ensures) (c .if2 .left) .0
 
 currency-is : (c : tie.Else3) → isCurrency (piece (c .before .before .before .before .before .before .before .before) 1) ≡ true
 currency-is c = sym (c .before .is-currency .ensures) ∙ not-false (c .before .is-currency .result) (c .if3 .left)
@@ -128,15 +129,15 @@ element-copy-out-code c = search needs
 add-code : tie.Need-add-code
 add-code c = fits (c .before) 0 (omega arith)
 
-element-copy-out-is-code : tie.Need-element-copy-out-is-code
-element-copy-out-is-code c = search needs
+element-copy-out-code-in : tie.Need-element-copy-out-code-in
+element-copy-out-code-in c = search needs
 
-is-code-requires : tie.Need-is-code-requires
-is-code-requires c κs = its-line (c .before .before) .asked 0 (omega arith)
+code-in-requires : tie.Need-code-in-requires
+code-in-requires c κs = its-line (c .before .before) .asked 0 (omega arith)
 
 returns-2 : tie.Need-returns-2
 returns-2 c =
-    sym (by-fields (c .before .before .before .before) ∙ rw (sym (c .before .is-code .ensures) ∙ not-true (c .before .is-code .result) (c .if2 .taken)))
+    sym (by-fields (c .before .before .before .before) ∙ rw (code-missed (piece (c .before .before .before .before) 0) (c .before .code-in .result) (c .before .code-in .ensures) (c .if2 .taken)))
 
 element-copy-out-currency : tie.Need-element-copy-out-currency
 element-copy-out-currency c = search needs
@@ -345,8 +346,8 @@ security-row-spec =
     returns
     element-copy-out-code
     add-code
-    element-copy-out-is-code
-    is-code-requires
+    element-copy-out-code-in
+    code-in-requires
     returns-2
     element-copy-out-currency
     add-currency

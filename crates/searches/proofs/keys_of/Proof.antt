@@ -1,15 +1,20 @@
 -- `searches::keys_of` meets its contract. The loop's invariant: the keys are those of the codes so far. The measure is the codes left.
 use Prim.Native.Nat.{ℕ, suc, _+_, _-_, _≤_, _<_}
+use native.Mathlib.Nat.{min-le-right}
 use native.Mathlib.Numerals.{add-one}
 use native.Mathlib.Omega.{arith}
+use mathlib.Core.Bool.{true}
 use mathlib.Core.List.{List, [], _∷_, _++_, map, map-append}
 use mathlib.Core.Path.{_≡_, refl, sym, ap, ap₂, _∙_}
-use lib.ListN.{length, getD, take, set, replicate, length-map, length-append}
+use lib.ListN.{length, getD, take, set, replicate, length-map, length-append, length-take, length-drop}
 use lib.Seq.{take-suc, set-at, append-snoc, length-take-le, getD-take}
 use Rattle.paper.specs.Units.{Text}
+use Rattle.paper.specs.Text.{isCode}
 use Rattle.paper.proofs.Lists.{each-at}
+use Rattle.paper.proofs.Fields.{code-length}
 use Rattle.fields.specs.Places.{Place}
-use Rattle.searches.specs.Searches.{numberAt, highest, keysOf}
+use Rattle.fields.proofs.Numbers.{code-read}
+use Rattle.searches.specs.Searches.{textAt, numberAt, highest, keysOf}
 use Rattle.searches.proofs.keys_of.Statement.{statement}
 use Rattle.searches.proofs.keys_of.Tie as tie
 
@@ -44,19 +49,36 @@ abbrev μ-loop : tie.MeasureT-loop
 loop-holds : tie.Need-loop-holds Inv-loop μ-loop
 loop-holds c = (omega arith, omega (arith, c .codes .given, c .before .before .pre .0), refl)
 
-mul-code-number : tie.Need-mul-code-number Inv-loop μ-loop
-mul-code-number c = omega arith
+mul-code : tie.Need-mul-code Inv-loop μ-loop
+mul-code c = omega arith
 
-shared-slice-read-code-number : tie.Need-shared-slice-read-code-number Inv-loop μ-loop
-shared-slice-read-code-number c = omega arith
+shared-slice-read-code : tie.Need-shared-slice-read-code Inv-loop μ-loop
+shared-slice-read-code c = omega arith
 
-code-number-requires : tie.Need-code-number-requires Inv-loop μ-loop
-code-number-requires c κs =
-    let l = c .before .before in
+-- A code of the sheet is one, and is there as a whole
+is-code : (c : tie.In-loop Inv-loop μ-loop)
+    → let a = c .before .before .before .before .args in
+    isCode (textAt 12 (a .s .now) (getD (a .codes .now) (c .before .loop .i) 0)) ≡ true
+is-code c =
+    let l = c .before in
     let b = l .before .before .before in
     let a = b .args in
     rw (getD-take (a .count) (a .codes .now) (l .loop .i) 0 (omega arith)) at
     (each-at (l .loop .i) 0 (b .pre .1) (omega (arith, length-take-le (a .count) (a .codes .now) (l .loop .inv .1))))
+
+whole : (s : Text) (p : Place) → isCode (textAt 12 s p) ≡ true → p + 12 ≤ length s
+whole s p is = omega (arith, code-length (textAt 12 s p) is, length-drop p (take (p + 12) s), length-take (p + 12) s, min-le-right (p + 12) (length s))
+
+there : (c : tie.In-loop Inv-loop μ-loop)
+    → let a = c .before .before .before .before .args in
+    getD (a .codes .now) (c .before .loop .i) 0 + 12 ≤ length (a .s .now)
+there c = let a = c .before .before .before .before .args in whole (a .s .now) (getD (a .codes .now) (c .before .loop .i) 0) (is-code c)
+
+add-code-in : tie.Need-add-code-in Inv-loop μ-loop
+add-code-in c = omega (arith, there (c .before))
+
+code-in-requires : tie.Need-code-in-requires Inv-loop μ-loop
+code-in-requires c κs = (omega arith, there (c .before))
 
 mul-keys : tie.Need-mul-keys Inv-loop μ-loop
 mul-keys c = omega arith
@@ -77,7 +99,7 @@ loop-again c =
     let a = b .args in (
       omega arith,
       l .loop .inv .1,
-      ap₂ (λ (keys : List ℕ) (key : ℕ). set keys (l .loop .i) key) (l .loop .inv .2) (c .code-number .ensures)
+      ap₂ (λ (keys : List ℕ) (key : ℕ). set keys (l .loop .i) key) (l .loop .inv .2) (c .code-in .ensures ∙ code-read (textAt 12 (a .s .now) (getD (a .codes .now) (l .loop .i) 0)) (is-code (c .before .before)))
           ∙ key-more (a .s .now) (a .codes .now) (l .loop .i) (omega (arith, l .loop .inv .1)) (omega (arith, b .pre .0)),
     )
 
@@ -95,9 +117,10 @@ keys-of-spec =
     Inv-loop
     μ-loop
     loop-holds
-    mul-code-number
-    shared-slice-read-code-number
-    code-number-requires
+    mul-code
+    shared-slice-read-code
+    add-code-in
+    code-in-requires
     mul-keys
     array-write-keys
     add-i
