@@ -34,8 +34,6 @@ use Rattle.fields.proofs.date_in.Reads as fields-date-in
 use Rattle.fields.proofs.kind_in.Reads as fields-kind-in
 use Rattle.fields.proofs.trade_in.Reads as fields-trade-in
 use Rattle.fields.proofs.side_in.Reads as fields-side-in
-use Rattle.fields.proofs.is_code.Reads as fields-is-code
-use Rattle.fields.proofs.code_number.Reads as fields-code-number
 use Rattle.fields.proofs.code_in.Reads as fields-code-in
 use Rattle.fields.proofs.is_currency.Reads as fields-is-currency
 use Rattle.fields.proofs.compare.Reads as fields-compare
@@ -157,12 +155,6 @@ fields-trade-in-fixed κs a x y s u p q = one p q
 
 pub fields-side-in-fixed : Fixes fields-side-in.Post
 fields-side-in-fixed κs a x y s u p q = one p q
-
-pub fields-is-code-fixed : Fixes fields-is-code.Post
-fields-is-code-fixed κs a x y s u p q = one p q
-
-pub fields-code-number-fixed : Fixes fields-code-number.Post
-fields-code-number-fixed κs a x y s u p q = one p q
 
 pub fields-code-in-fixed : Fixes fields-code-in.Post
 fields-code-in-fixed κs a x y s u p q = one p q

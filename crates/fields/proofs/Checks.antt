@@ -1,15 +1,14 @@
 -- A code's number and its check digit in one pass: what is read so far is held as the number so far and as two sums, what its
 -- digits count where the last of them counts once and where it is doubled.
-use Prim.Native.Nat.{ℕ, zero, suc, _+_, _-_, _*_, _/_, _%_, _≤_, _<_}
+use Prim.Native.Nat.{ℕ, zero, suc, _+_, _-_, _*_, _%_, _≤_, _<_}
 use native.Mathlib.Omega.{arith}
 use native.Mathlib.Nat.{add-zero, add-suc, suc-add}
-use mathlib.Core.Bool.{Bool, true, false, not, cond, _&&_, _||_}
-use mathlib.Core.List.{List, [], _∷_, _++_, reverse, append-assoc, append-nil}
+use mathlib.Core.Bool.{Bool, true, false, cond, _&&_, _||_}
+use mathlib.Core.List.{[], _∷_, _++_, reverse, append-assoc}
 use mathlib.Core.Path.{_≡_, refl, sym, ap, ap₂, _∙_}
-use borrow.Author.Tests.{lt-leb, le-leb}
-use lib.Dec.{eqb, leb}
+use lib.Dec.{eqb}
 use lib.ListN.{length, getD, take, drop}
-use Rattle.paper.specs.Units.{Byte, Digit, Text}
+use Rattle.paper.specs.Units.{Byte, Text}
 use Rattle.paper.specs.Lists.{between, every}
 use Rattle.paper.specs.Text.{isDigit, isLetter, inDigits, counted, hasCodeForm, hasCheckDigit, isCode}
 use Rattle.paper.proofs.Lists.{bounds, every-cons}

@@ -3,7 +3,6 @@ use Prim.Native.Nat.{ℕ, zero, suc, _+_, _-_, _*_}
 use mathlib.Core.Bool.{Bool, true, false, cond, _&&_, _||_}
 use mathlib.Core.List.{List, [], _∷_, reverse}
 use mathlib.Core.Option.{Option, none, some}
-use lib.Dec.{eqb}
 use lib.IntN.{ℤ}
 use lib.ListN.{take, drop}
 use Rattle.paper.specs.Units.{Byte, Text, Duration, Rate}
@@ -67,10 +66,6 @@ tradeNumber cash = 1
 abbrev pub sideNumber : Side → ℕ
 sideNumber seller = 0
 sideNumber purchaser = 1
-
--- The sets of bytes that a code and a currency are made of, by their numbers in the code: letters, digits, both
-abbrev pub inSet : ℕ → Byte → Bool
-inSet set b = cond (eqb set 0) (isLetter b) (cond (eqb set 1) (isDigit b) (isLetter b || isDigit b))
 
 -- A code as one number that orders as its bytes do, read on from a number: each byte from `0` on in base 43, which reaches to
 -- `Z`, and the last, a digit, in base 10

@@ -7,9 +7,9 @@ ghost use mathlib.Core.Option.{none, Option·map};
 ghost use lib.ListN.{length, getD};
 ghost use lib.Seq.{slice};
 ghost use Rattle.paper.specs.Lists.{between, every};
-ghost use Rattle.paper.specs.Text.{LF, numberIn, dateIn, isCurrency};
+ghost use Rattle.paper.specs.Text.{LF, isLetter, numberIn, dateIn, isCurrency};
 ghost use Rattle.paper.specs.Rows.{kindIn, tradeIn, sideIn};
-ghost use Rattle.fields.specs.Values.{value, signed, digitsIn, digitsOr, rangedIn, rateIn, durationIn, kindNumber, tradeNumber, sideNumber, inSet, worths, checkedOr, codeOr, orderOf};
+ghost use Rattle.fields.specs.Values.{value, signed, digitsIn, digitsOr, rangedIn, rateIn, durationIn, kindNumber, tradeNumber, sideNumber, worths, checkedOr, codeOr, orderOf};
 ghost use Rattle.fields.specs.Places.{endedLength, lineAt};
 
 pub type Place = usize; // in the sheet, in bytes from its start
@@ -278,36 +278,14 @@ fn is_within(
     lowest <= b && b <= highest
 }
 
-// Whether a byte is of a set: 0 letters, 1 digits, 2 both.
-fn in_set(
-    b: u8, // a byte
-    set: u64, // 0 to 2
-) -> bool
-    requires { ⌜ set < 3 ⌝ }
-    ensures { λ r. ⌜ r ≡ inSet set b ⌝ }
-{
-    if set == 0 {
-        return is_within(b, 65, 90);
-    }
-    if set == 1 {
-        return is_within(b, 48, 57);
-    }
-    is_within(b, 65, 90) || is_within(b, 48, 57)
-}
-
-// Whether all bytes are of a set.
-fn all_in(
-    s: &[u8],
-    at: Place,
-    end: Place,
-    set: u64, // 0 to 2
-) -> bool
-    requires { ⌜ (at ≤ end) × (end ≤ length (now s)) × (set < 3) ⌝ }
-    ensures { λ r. ⌜ r ≡ every (inSet set) (slice at end (now (s .entry))) ⌝ }
+// Whether all bytes are letters.
+fn all_letters(s: &[u8], at: Place, end: Place) -> bool
+    requires { ⌜ (at ≤ end) × (end ≤ length (now s)) ⌝ }
+    ensures { λ r. ⌜ r ≡ every isLetter (slice at end (now (s .entry))) ⌝ }
 {
     let mut i: Place = at;
     while i < end {
-        if in_set(s[i], set) {
+        if is_within(s[i], 65, 90) {
             i += 1;
         } else {
             return false;
@@ -412,7 +390,7 @@ pub fn code_in(s: &[u8], at: Place, end: Place) -> u64
     if end - at != 12 {
         return 18446744073709551615;
     }
-    if !all_in(s, at, at + 2, 0) {
+    if !all_letters(s, at, at + 2) {
         return 18446744073709551615;
     }
     let worth = WORTH; // lent, since a constant is written to the stack wherever it is indexed
@@ -427,7 +405,7 @@ pub fn is_currency(s: &[u8], at: Place, end: Place) -> bool
     if end - at != 3 {
         return false;
     }
-    all_in(s, at, end, 0)
+    all_letters(s, at, end)
 }
 
 // How so many bytes at one place stand to those at another.

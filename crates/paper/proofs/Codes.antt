@@ -12,8 +12,8 @@ use lib.Dec.{eqb, ltb}
 use Rattle.paper.specs.Units.{Byte, Digit, Text}
 use Rattle.paper.specs.Lists.{joinedUp}
 use Rattle.paper.specs.Text.{isDigit, isLetter, inDigits, doubled, counted, hasCodeForm, hasCheckDigit, isCode}
-use Rattle.paper.specs.Codes.{alike, evenLetter, hidden, Checked}
-use Rattle.paper.proofs.Lists.{never, both, bounds, joined-parts}
+use Rattle.paper.specs.Codes.{alike, hidden, Checked}
+use Rattle.paper.proofs.Lists.{never, bounds, joined-parts}
 
 -- Which is doubled first behind so many digits
 abbrev pub behind : Bool → List Digit → Bool

@@ -2,14 +2,13 @@
 -- two sums so far, give the answer. The number is below a power of 43, and no sum above 18 for each byte, so that nothing
 -- overflows. The measure is the bytes left.
 use Prim.Native.Nat.{ℕ, suc, _+_, _-_, _*_, _/_, _%_, _^_, _≤_, _<_}
-use native.Mathlib.Nat.{add-zero, add-assoc, pow-succ', pow-le-pow-right, le-trans}
+use native.Mathlib.Nat.{add-zero, add-assoc, pow-succ', pow-le-pow-right}
 use native.Mathlib.Numerals.{add-one}
 use native.Mathlib.Omega.{arith}
 use mathlib.Core.Bool.{Bool, true, false, cond, _&&_}
 use mathlib.Core.List.{List, _∷_, reverse}
 use mathlib.Core.Logic.{⊎-elim}
 use mathlib.Core.Path.{_≡_, refl, sym, ap, ap₂, _∙_}
-use borrow.Author.Needs.{needs}
 use borrow.Author.Tests.{not-true, not-false, ne-eqb, eq-eqb, lt-leb, le-leb}
 use lib.Dec.{eqb, lit<}
 use lib.ListN.{length, getD}
@@ -18,7 +17,7 @@ use Rattle.paper.specs.Units.{Byte, Text}
 use Rattle.paper.specs.Lists.{between}
 use Rattle.paper.specs.Text.{isDigit, isLetter, inDigits, counted}
 use Rattle.paper.proofs.Lists.{never, bounds}
-use Rattle.fields.specs.Values.{worthOf, worths, checkedOr}
+use Rattle.fields.specs.Values.{worthOf, checkedOr}
 use Rattle.fields.proofs.Parts.{part-step}
 use Rattle.fields.proofs.Numbers.{mixed-within}
 use Rattle.fields.proofs.Checks.{mixed, sumWith, taken, taken-all, worth-at, Worth, none, some, worth-is}

@@ -13,13 +13,13 @@ returns c =
     let a = c .before .before .args in
     simp (part-unsized (a .s .now) (a .at) (a .end) 3 (omega arith) (c .if1 .taken))
 
-all-in-requires : tie.Need-all-in-requires
-all-in-requires c κs = search needs
+all-letters-requires : tie.Need-all-letters-requires
+all-letters-requires c κs = search needs
 
 returns-2 : tie.Need-returns-2
 returns-2 c =
     let a = c .before .before .before .args in
-    simp (part-sized (a .s .now) (a .at) (a .end) 3 (omega arith) (c .before .if1 .left)) (c .all-in .ensures)
+    simp (part-sized (a .s .now) (a .at) (a .end) 3 (omega arith) (c .before .if1 .left)) (c .all-letters .ensures)
 
 pub is-currency-spec : {M : Type 1} → statement M
-is-currency-spec = tie.close (tie.spec sub-if1 returns all-in-requires returns-2)
+is-currency-spec = tie.close (tie.spec sub-if1 returns all-letters-requires returns-2)
