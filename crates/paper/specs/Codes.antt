@@ -16,15 +16,15 @@ abbrev pub alike : Digit → Digit → Bool
 alike d e = eqb (d % 9) (e % 9)
 
 -- Whether the two digits of a letter are so
-abbrev pub evenLetter : Byte → Bool
-evenLetter b = alike ((b - 55) / 10) ((b - 55) % 10)
+abbrev pub twinLetter : Byte → Bool
+twinLetter b = alike ((b - 55) / 10) ((b - 55) % 10)
 
 -- Whether two neighbours that are swapped count the same: two letters always, a letter and a digit by the letter's own digits
 abbrev pub hidden : Byte → Byte → Bool
 hidden b c =
     cond (isLetter b)
-    (cond (isLetter c) true (evenLetter b))
-    (cond (isLetter c) (evenLetter c) (alike (b - 48) (c - 48)))
+    (cond (isLetter c) true (twinLetter b))
+    (cond (isLetter c) (twinLetter c) (alike (b - 48) (c - 48)))
 
 -- What the check is worth, wherever in a text the slip is and whatever letters stand beside it
 pub record Checked : Type 0 where
@@ -63,7 +63,7 @@ Codes =
     × (codes ("FR0011337808" ∷ "US0378330105" ∷ []) ≡ false ∷ false ∷ [])
     × (only (λ b. isCode (ascii "FR001133788" ++ (b ∷ []))) digits ≡ ascii "0")
     -- The letters that a digit beside them can be swapped with; the digits that 0, 4 and 9 can be
-    × (only evenLetter letters ≡ ascii "BMX")
+    × (only twinLetter letters ≡ ascii "BMX")
     × (map (λ b. only (hidden b) digits) (ascii "049") ≡ ascii "09" ∷ ascii "4" ∷ ascii "09" ∷ [])
     -- Not shown: 0 and 9 swapped, two letters swapped, M and 3 swapped, C for K
     × (codes ("FR0011337096" ∷ "FR0011337906" ∷ "US000AB00016" ∷ "US000BA00016" ∷ []) ≡ replicate 4 true)
