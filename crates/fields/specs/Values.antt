@@ -84,11 +84,12 @@ abbrev pub worthOf : Byte → ℕ
 worthOf b =
     cond (isLetter b || isDigit b) (counted false (reverse (inDigits b)) + 256 * counted true (reverse (inDigits b))) 65535
 
--- The same of so many bytes from a byte on, and from `0` to `Z`
+-- The same of so many bytes from a byte on
 abbrev pub worthsFrom : ℕ → Byte → List ℕ
 worthsFrom zero b = []
 worthsFrom (suc k) b = worthOf b ∷ worthsFrom k (suc b)
 
+-- And from `0` to `Z`
 abbrev pub worths : List ℕ
 worths = worthsFrom 43 48
 

@@ -16,6 +16,8 @@ pub type Place = usize; // in the sheet, in bytes from its start
 
 pub type Date = u64; // eight digits as one number
 
+type Counts = u16; // what digits count, in two numbers, the second times 256: the last of them once, and doubled
+
 // What a field reads as: a number of the field's unit, or nothing that it may be.
 pub enum Value {
     Is(u64),
@@ -294,9 +296,8 @@ fn all_letters(s: &[u8], at: Place, end: Place) -> bool
     true
 }
 
-// What a byte of a code counts (02, b), from `0` to `Z`, in two numbers, the second times 256: where the last of its digits
-// counts once, and where it is doubled. 0xffff for a byte that no code has.
-const WORTH: [u16; 43] = [
+// What a byte of a code counts (02, b), from `0` to `Z`; 0xffff for a byte that no code has.
+const WORTH: [Counts; 43] = [
     0x0000,
     0x0201,
     0x0402,
@@ -345,19 +346,23 @@ const WORTH: [u16; 43] = [
 // Twelve bytes as a code's number where eleven letters or digits and a digit stand there, and the digit checks them; else the
 // highest number. One pass: it makes the number, and keeps what the digits so far count, both where the last of them counts
 // once and where it is doubled, since only the end tells which.
-fn checked_number(s: &[u8], at: Place, worth: &[u16; 43]) -> u64
+fn checked_number(
+    s: &[u8],
+    at: Place,
+    worth: &[Counts; 43], // by byte, from `0`
+) -> u64
     requires { ⌜ (at + 12 ≤ length (now s)) × (now worth ≡ worths) ⌝ }
     ensures { λ r. ⌜ r ≡ checkedOr (slice at (at + 12) (now (s .entry))) ⌝ }
 {
     let mut n: u64 = 0; // the bytes so far, in base 43
-    let mut counts: u16 = 0; // as in the table, of all digits so far
+    let mut counts: Counts = 0; // of all digits so far
     let mut i: usize = 0; // bytes
     while i < 11 {
         let b = s[at + i]; // a byte
         if !is_within(b, 48, 90) {
             return 18446744073709551615;
         }
-        let more = worth[(b - 48) as usize]; // as in the table
+        let more = worth[(b - 48) as usize]; // Counts, of the byte
         if more == 0xffff {
             return 18446744073709551615;
         }
@@ -367,7 +372,7 @@ fn checked_number(s: &[u8], at: Place, worth: &[u16; 43]) -> u64
             counts / 256 + 256 * (counts % 256)
         } else {
             counts
-        }; // as in the table
+        }; // Counts, of the digits before the byte
         counts = moved + more;
         i += 1;
     }

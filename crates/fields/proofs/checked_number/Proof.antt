@@ -1,119 +1,25 @@
 -- `fields::checked_number` meets its contract. The loop's invariant: the bytes that are left, read on from the number and the
 -- two sums so far, give the answer. The number is below a power of 43, and no sum above 18 for each byte, so that nothing
 -- overflows. The measure is the bytes left.
-use Prim.Native.Nat.{ℕ, suc, _+_, _-_, _*_, _/_, _%_, _^_, _≤_, _<_}
-use native.Mathlib.Nat.{add-zero, add-assoc, pow-succ', pow-le-pow-right}
-use native.Mathlib.Numerals.{add-one}
+use Prim.Native.Nat.{ℕ, _+_, _-_, _*_, _/_, _%_, _^_, _≤_, _<_}
 use native.Mathlib.Omega.{arith}
 use mathlib.Core.Bool.{Bool, true, false, cond, _&&_}
-use mathlib.Core.List.{List, _∷_, reverse}
+use mathlib.Core.List.{List, reverse}
 use mathlib.Core.Logic.{⊎-elim}
-use mathlib.Core.Path.{_≡_, refl, sym, ap, ap₂, _∙_}
+use mathlib.Core.Path.{_≡_, refl, sym, ap, _∙_}
 use borrow.Author.Tests.{not-true, not-false, ne-eqb, eq-eqb, lt-leb, le-leb}
-use lib.Dec.{eqb, lit<}
+use lib.Dec.{eqb}
 use lib.ListN.{length, getD}
-use lib.Seq.{slice, length-slice}
-use Rattle.paper.specs.Units.{Byte, Text}
+use lib.Seq.{slice}
+use Rattle.paper.specs.Units.{Byte}
 use Rattle.paper.specs.Lists.{between}
 use Rattle.paper.specs.Text.{isDigit, isLetter, inDigits, counted}
 use Rattle.paper.proofs.Lists.{never, bounds}
 use Rattle.fields.specs.Values.{worthOf, checkedOr}
-use Rattle.fields.proofs.Parts.{part-step}
 use Rattle.fields.proofs.Numbers.{mixed-within}
-use Rattle.fields.proofs.Checks.{mixed, sumWith, taken, taken-all, worth-at, Worth, none, some, worth-is}
+use Rattle.fields.proofs.Checks.{mixed, worth-at, Worth, none, some, worth-is, Read, Moved, room, start, stopped, next, ended}
 use Rattle.fields.proofs.checked_number.Statement.{statement}
 use Rattle.fields.proofs.checked_number.Tie as tie
-
--- Twelve bytes read up to so many
-record Read (s : Text) (at n counts i : ℕ) : Type 0 where
-  count : i ≤ 11
-  small : n < 43 ^ i
-  once : counts % 256 ≤ 18 * i
-  twice : counts / 256 ≤ 18 * i
-  answer : checkedOr (slice at (at + 12) s) ≡ taken (11 - i) n (counts % 256) (counts / 256) (slice (at + i) (at + 12) s)
-
--- Both sums as a byte finds them: those of the digits before it, or the other way round
-abbrev Moved : Byte → ℕ → ℕ → Type 0
-Moved b counts moved =
-    moved ≡ cond (isLetter b) (counts % 256) (counts / 256) + 256 * cond (isLetter b) (counts / 256) (counts % 256)
-
--- Two pairs of sums, each in one number, added
-halves : (p q x y : ℕ) → p + x < 256 → (((p + 256 * q) + (x + 256 * y)) % 256 ≡ x + p) × (((p + 256 * q) + (x + 256 * y)) / 256 ≡ y + q)
-halves p q x y h = (omega arith, omega arith)
-
--- The number so far, with a byte more, fits
-room : (n i : ℕ) → n < 43 ^ i → i < 11 → 43 * n + 42 < 18446744073709551615
-room n i small h =
-    let most : 43 ^ i ≤ 43 ^ 10 = pow-le-pow-right (lit< tt) {i = i} {j = 10} (omega arith) in
-    omega (arith, most)
-
-module _ (s : Text) (at : ℕ) (inside : at + 12 ≤ length s) where
-  -- The byte at a place, and those behind it
-  step : (i : ℕ) → i ≤ 11 → slice (at + i) (at + 12) s ≡ getD s (at + i) 0 ∷ slice (at + (i + 1)) (at + 12) s
-  step i h = part-step s (at + i) (at + 12) (omega arith) inside ∙ rw add-assoc
-
-  -- Nothing read
-  start : Read s at 0 0 0
-  start =
-      record {
-        count = omega arith;
-        small = lit< tt;
-        once = omega arith;
-        twice = omega arith;
-        answer =
-            taken-all (slice at (at + 12) s) (length-slice at (at + 12) s inside ∙ omega arith)
-            ∙ ap (λ (from : ℕ). taken 11 0 0 0 (slice from (at + 12) s)) (sym (add-zero at));
-      }
-
-  -- A byte that no code has
-  stopped : (n counts i : ℕ) → i < 11 → Read s at n counts i → mixed (getD s (at + i) 0) ≡ false
-      → 18446744073709551615 ≡ checkedOr (slice at (at + 12) s)
-  stopped n counts i h r other =
-      let fewer : 11 - i ≡ suc (11 - (i + 1)) = omega arith in
-      sym (r .answer ∙ rw (fewer, step i (r .count), other))
-
-  -- A byte more
-  next : (n counts i moved once twice : ℕ) → i < 11 → Read s at n counts i → mixed (getD s (at + i) 0) ≡ true
-      → between 48 90 (getD s (at + i) 0) ≡ true → once ≡ counted false (reverse (inDigits (getD s (at + i) 0)))
-      → twice ≡ counted true (reverse (inDigits (getD s (at + i) 0))) → once ≤ 18 → twice ≤ 18 → Moved (getD s (at + i) 0) counts moved
-      → Read s at (43 * n + (getD s (at + i) 0 - 48)) (moved + (once + 256 * twice)) (i + 1)
-  next n counts i moved once twice h r its within is-once is-twice once-low twice-low is-moved =
-      let b = getD s (at + i) 0 in
-      let d = bounds 48 90 b within in
-      let p = cond (isLetter b) (counts % 256) (counts / 256) in
-      let q = cond (isLetter b) (counts / 256) (counts % 256) in
-      let p-low : p ≤ 18 * i = either (isLetter b) (r .once) (r .twice) in
-      let q-low : q ≤ 18 * i = either (isLetter b) (r .twice) (r .once) in
-      let sums = halves p q once twice (omega (arith, p-low)) in
-      let is : moved + (once + 256 * twice) ≡ (p + 256 * q) + (once + 256 * twice) = ap (λ (m : ℕ). m + (once + 256 * twice)) is-moved in
-      let low : (moved + (once + 256 * twice)) % 256 ≡ once + p = ap (λ (m : ℕ). m % 256) is ∙ sums .0 in
-      let high : (moved + (once + 256 * twice)) / 256 ≡ twice + q = ap (λ (m : ℕ). m / 256) is ∙ sums .1 in
-      let fewer : 11 - i ≡ suc (11 - (i + 1)) = omega arith in
-      record {
-        count = omega arith;
-        small = rw (add-one i, pow-succ' 43 i) (omega (arith, r .small));
-        once = rw low (omega (arith, p-low));
-        twice = rw high (omega (arith, q-low));
-        answer =
-            r .answer
-            ∙ ap₂ (λ (k : ℕ) (t : Text). taken k n (counts % 256) (counts / 256) t) fewer (step i (r .count))
-            ∙ ap (λ (x : Bool). cond x (taken (11 - (i + 1)) (43 * n + (b - 48)) (sumWith false b (counts % 256) (counts / 256)) (sumWith true b (counts % 256) (counts / 256)) (slice (at + (i + 1)) (at + 12) s)) 18446744073709551615) its
-            ∙ ap₂ (λ (x y : ℕ). taken (11 - (i + 1)) (43 * n + (b - 48)) x y (slice (at + (i + 1)) (at + 12) s))
-            (ap (λ (x : ℕ). x + p) (sym is-once) ∙ sym low)
-            (ap (λ (x : ℕ). x + q) (sym is-twice) ∙ sym high);
-      }
-    where
-      either : (x : Bool) {u v k : ℕ} → u ≤ k → v ≤ k → cond x u v ≤ k
-      either true f g = f
-      either false f g = g
-
-  -- The last byte: no digit, one that does not check the others, one that does
-  ended : (n counts i : ℕ) → 11 ≤ i → Read s at n counts i
-      → checkedOr (slice at (at + 12) s)
-      ≡ cond (isDigit (getD s (at + 11) 0) && eqb ((counts / 256 + (getD s (at + 11) 0 - 48)) % 10) 0) (10 * n + (getD s (at + 11) 0 - 48)) 18446744073709551615
-  ended n counts i h r =
-      let all : i ≡ 11 = omega (arith, r .count) in
-      r .answer ∙ rw (all, step 11 (omega arith))
 
 abbrev Inv-loop : tie.InvT-loop
 Inv-loop s at worth n₀ counts₀ i₀ n counts i = Read s at n counts i
