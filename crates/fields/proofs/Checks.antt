@@ -15,7 +15,7 @@ use Rattle.paper.specs.Lists.{between, every}
 use Rattle.paper.specs.Text.{isDigit, isLetter, inDigits, counted, hasCodeForm, hasCheckDigit, isCode}
 use Rattle.paper.proofs.Lists.{bounds, every-cons}
 use Rattle.paper.proofs.Codes.{fromEnd, from-end-append, digit-letter}
-use Rattle.fields.specs.Values.{codeFrom, worthOf, worthsFrom, worths, checkedOr, codeOr}
+use Rattle.fields.specs.Values.{codeFrom, byteCounts, byteCountsFrom, countsTable, checkedOr, codeOr}
 use Rattle.fields.proofs.Parts.{part-step}
 
 -- A byte that a code may have before its last
@@ -86,16 +86,16 @@ unfolding hasCheckDigit
 taken-all t e = sym (taken-is 11 0 [] t e)
 
 -- The table at a byte
-worths-at : (k : ℕ) (b i : ℕ) → i < k → getD (worthsFrom k b) i 0 ≡ worthOf (b + i)
-worths-at zero b i h = absurd (omega arith)
-worths-at (suc k) b zero h = ap worthOf (sym (add-zero b))
-worths-at (suc k) b (suc i) h = worths-at k (suc b) i (omega arith) ∙ ap worthOf (suc-add b i ∙ sym (add-suc b i))
+table-from : (k : ℕ) (b i : ℕ) → i < k → getD (byteCountsFrom k b) i 0 ≡ byteCounts (b + i)
+table-from zero b i h = absurd (omega arith)
+table-from (suc k) b zero h = ap byteCounts (sym (add-zero b))
+table-from (suc k) b (suc i) h = table-from k (suc b) i (omega arith) ∙ ap byteCounts (suc-add b i ∙ sym (add-suc b i))
 
-pub worth-at : (b : Byte) → between 48 90 b ≡ true → (b - 48 < 43) × (getD worths (b - 48) 0 ≡ worthOf b)
-worth-at b h =
+pub table-at : (b : Byte) → between 48 90 b ≡ true → (b - 48 < 43) × (getD countsTable (b - 48) 0 ≡ byteCounts b)
+table-at b h =
     let d = bounds 48 90 b h in
     let back : 48 + (b - 48) ≡ b = omega arith in
-    (omega arith, worths-at 43 48 (b - 48) (omega arith) ∙ ap worthOf back)
+    (omega arith, table-from 43 48 (b - 48) (omega arith) ∙ ap byteCounts back)
 
 -- Neither number of a byte is above 18, two digits of 9
 count-low : (first : Bool) (b : Byte) → mixed b ≡ true → counted first (reverse (inDigits b)) ≤ 18
@@ -107,18 +107,38 @@ count-low first b h = go first (isLetter b) refl
     go true false k = let d = bounds 48 57 b (rw k at h) in rw k (omega arith)
     go false false k = let d = bounds 48 57 b (rw k at h) in rw k (omega arith)
 
--- A byte of the table is one of a code, and then its two numbers, or is none
-pub data Worth (b : Byte) : Type 0 where
-  none : mixed b ≡ false → worthOf b ≡ 65535 → Worth b
-  some : mixed b ≡ true → (once twice : ℕ) → once ≡ counted false (reverse (inDigits b)) → twice ≡ counted true (reverse (inDigits b))
-      → once ≤ 18 → twice ≤ 18 → worthOf b ≡ once + 256 * twice → Worth b
+-- A byte that a code may have, by its two numbers
+pub record Its (b : Byte) : Type 0 where
+  pub once : ℕ
+  pub twice : ℕ
+  pub is-mixed : mixed b ≡ true
+  pub is-once : once ≡ counted false (reverse (inDigits b))
+  pub is-twice : twice ≡ counted true (reverse (inDigits b))
+  pub once-low : once ≤ 18
+  pub twice-low : twice ≤ 18
+  pub counts : byteCounts b ≡ once + 256 * twice
 
-pub worth-is : (b : Byte) → Worth b
-worth-is b = go (mixed b) refl
+-- Any byte is one of them, or is none
+pub data Judged (b : Byte) : Type 0 where
+  none : mixed b ≡ false → byteCounts b ≡ 65535 → Judged b
+  some : Its b → Judged b
+
+pub judged : (b : Byte) → Judged b
+judged b = go (mixed b) refl
   where
-    go : (x : Bool) → mixed b ≡ x → Worth b
+    go : (x : Bool) → mixed b ≡ x → Judged b
     go true k =
-        some k (counted false (reverse (inDigits b))) (counted true (reverse (inDigits b))) refl refl (count-low false b k) (count-low true b k) (rw k)
+        some
+        (record {
+          once = counted false (reverse (inDigits b));
+          twice = counted true (reverse (inDigits b));
+          is-mixed = k;
+          is-once = refl;
+          is-twice = refl;
+          once-low = count-low false b k;
+          twice-low = count-low true b k;
+          counts = rw k;
+        })
     go false k = none k (rw k)
 
 -- A field that is not a code, by its size and by its first two bytes
@@ -192,18 +212,19 @@ module _ (s : Text) (at : ℕ) (inside : at + 12 ≤ length s) where
       sym (r .answer ∙ rw (fewer, step i (r .count), other))
 
   -- A byte more
-  pub next : (n counts i moved once twice : ℕ) → i < 11 → Read s at n counts i → mixed (getD s (at + i) 0) ≡ true
-      → between 48 90 (getD s (at + i) 0) ≡ true → once ≡ counted false (reverse (inDigits (getD s (at + i) 0)))
-      → twice ≡ counted true (reverse (inDigits (getD s (at + i) 0))) → once ≤ 18 → twice ≤ 18 → Moved (getD s (at + i) 0) counts moved
-      → Read s at (43 * n + (getD s (at + i) 0 - 48)) (moved + (once + 256 * twice)) (i + 1)
-  next n counts i moved once twice h r its within is-once is-twice once-low twice-low is-moved =
+  pub next : (n counts i moved : ℕ) → i < 11 → Read s at n counts i → (w : Its (getD s (at + i) 0)) → between 48 90 (getD s (at + i) 0) ≡ true
+      → Moved (getD s (at + i) 0) counts moved
+      → Read s at (43 * n + (getD s (at + i) 0 - 48)) (moved + (w .once + 256 * w .twice)) (i + 1)
+  next n counts i moved h r w within is-moved =
       let b = getD s (at + i) 0 in
       let d = bounds 48 90 b within in
+      let once = w .once in
+      let twice = w .twice in
       let p = cond (isLetter b) (counts % 256) (counts / 256) in
       let q = cond (isLetter b) (counts / 256) (counts % 256) in
       let p-low : p ≤ 18 * i = either (isLetter b) (r .once) (r .twice) in
       let q-low : q ≤ 18 * i = either (isLetter b) (r .twice) (r .once) in
-      let sums = halves p q once twice (omega (arith, p-low)) in
+      let sums = halves p q once twice (omega (arith, p-low, w .once-low)) in
       let is : moved + (once + 256 * twice) ≡ (p + 256 * q) + (once + 256 * twice) = ap (λ (m : ℕ). m + (once + 256 * twice)) is-moved in
       let low : (moved + (once + 256 * twice)) % 256 ≡ once + p = ap (λ (m : ℕ). m % 256) is ∙ sums .0 in
       let high : (moved + (once + 256 * twice)) / 256 ≡ twice + q = ap (λ (m : ℕ). m / 256) is ∙ sums .1 in
@@ -211,15 +232,15 @@ module _ (s : Text) (at : ℕ) (inside : at + 12 ≤ length s) where
       record {
         count = omega arith;
         small = rw (add-one i, pow-succ' 43 i) (omega (arith, r .small));
-        once = rw low (omega (arith, p-low));
-        twice = rw high (omega (arith, q-low));
+        once = rw low (omega (arith, p-low, w .once-low));
+        twice = rw high (omega (arith, q-low, w .twice-low));
         answer =
             r .answer
             ∙ ap₂ (λ (k : ℕ) (t : Text). taken k n (counts % 256) (counts / 256) t) fewer (step i (r .count))
-            ∙ ap (λ (x : Bool). cond x (taken (11 - (i + 1)) (43 * n + (b - 48)) (sumWith false b (counts % 256) (counts / 256)) (sumWith true b (counts % 256) (counts / 256)) (slice (at + (i + 1)) (at + 12) s)) 18446744073709551615) its
+            ∙ ap (λ (x : Bool). cond x (taken (11 - (i + 1)) (43 * n + (b - 48)) (sumWith false b (counts % 256) (counts / 256)) (sumWith true b (counts % 256) (counts / 256)) (slice (at + (i + 1)) (at + 12) s)) 18446744073709551615) (w .is-mixed)
             ∙ ap₂ (λ (x y : ℕ). taken (11 - (i + 1)) (43 * n + (b - 48)) x y (slice (at + (i + 1)) (at + 12) s))
-            (ap (λ (x : ℕ). x + p) (sym is-once) ∙ sym low)
-            (ap (λ (x : ℕ). x + q) (sym is-twice) ∙ sym high);
+            (ap (λ (x : ℕ). x + p) (sym (w .is-once)) ∙ sym low)
+            (ap (λ (x : ℕ). x + q) (sym (w .is-twice)) ∙ sym high);
       }
     where
       either : (x : Bool) {u v k : ℕ} → u ≤ k → v ≤ k → cond x u v ≤ k

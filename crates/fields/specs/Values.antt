@@ -80,18 +80,18 @@ codeNumber = codeFrom 0
 
 -- What a byte of a code counts, in two numbers, the second times 256: where the last of its digits counts once, and where it is
 -- doubled. For a byte that no code has, the highest number of 16 bits, which no byte of a code counts
-abbrev pub worthOf : Byte → ℕ
-worthOf b =
+abbrev pub byteCounts : Byte → ℕ
+byteCounts b =
     cond (isLetter b || isDigit b) (counted false (reverse (inDigits b)) + 256 * counted true (reverse (inDigits b))) 65535
 
 -- The same of so many bytes from a byte on
-abbrev pub worthsFrom : ℕ → Byte → List ℕ
-worthsFrom zero b = []
-worthsFrom (suc k) b = worthOf b ∷ worthsFrom k (suc b)
+abbrev pub byteCountsFrom : ℕ → Byte → List ℕ
+byteCountsFrom zero b = []
+byteCountsFrom (suc k) b = byteCounts b ∷ byteCountsFrom k (suc b)
 
 -- And from `0` to `Z`
-abbrev pub worths : List ℕ
-worths = worthsFrom 43 48
+abbrev pub countsTable : List ℕ
+countsTable = byteCountsFrom 43 48
 
 -- Twelve bytes, of which eleven are letters or digits, the last is a digit, and checks them, as their number
 abbrev pub checkedOr : Text → ℕ

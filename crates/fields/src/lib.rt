@@ -9,7 +9,7 @@ ghost use lib.Seq.{slice};
 ghost use Rattle.paper.specs.Lists.{between, every};
 ghost use Rattle.paper.specs.Text.{LF, isLetter, numberIn, dateIn, isCurrency};
 ghost use Rattle.paper.specs.Rows.{kindIn, tradeIn, sideIn};
-ghost use Rattle.fields.specs.Values.{value, signed, digitsIn, digitsOr, rangedIn, rateIn, durationIn, kindNumber, tradeNumber, sideNumber, worths, checkedOr, codeOr, orderOf};
+ghost use Rattle.fields.specs.Values.{value, signed, digitsIn, digitsOr, rangedIn, rateIn, durationIn, kindNumber, tradeNumber, sideNumber, countsTable, checkedOr, codeOr, orderOf};
 ghost use Rattle.fields.specs.Places.{endedLength, lineAt};
 
 pub type Place = usize; // in the sheet, in bytes from its start
@@ -297,7 +297,7 @@ fn all_letters(s: &[u8], at: Place, end: Place) -> bool
 }
 
 // What a byte of a code counts (02, b), from `0` to `Z`; 0xffff for a byte that no code has.
-const WORTH: [Counts; 43] = [
+const COUNTS: [Counts; 43] = [
     0x0000,
     0x0201,
     0x0402,
@@ -349,9 +349,9 @@ const WORTH: [Counts; 43] = [
 fn checked_number(
     s: &[u8],
     at: Place,
-    worth: &[Counts; 43], // by byte, from `0`
+    table: &[Counts; 43], // by byte, from `0`
 ) -> u64
-    requires { ⌜ (at + 12 ≤ length (now s)) × (now worth ≡ worths) ⌝ }
+    requires { ⌜ (at + 12 ≤ length (now s)) × (now table ≡ countsTable) ⌝ }
     ensures { λ r. ⌜ r ≡ checkedOr (slice at (at + 12) (now (s .entry))) ⌝ }
 {
     let mut n: u64 = 0; // the bytes so far, in base 43
@@ -362,7 +362,7 @@ fn checked_number(
         if !is_within(b, 48, 90) {
             return 18446744073709551615;
         }
-        let more = worth[(b - 48) as usize]; // Counts, of the byte
+        let more = table[(b - 48) as usize]; // Counts, of the byte
         if more == 0xffff {
             return 18446744073709551615;
         }
@@ -398,8 +398,8 @@ pub fn code_in(s: &[u8], at: Place, end: Place) -> u64
     if !all_letters(s, at, at + 2) {
         return 18446744073709551615;
     }
-    let worth = WORTH; // lent, since a constant is written to the stack wherever it is indexed
-    checked_number(s, at, &worth)
+    let table = COUNTS; // lent, since a constant is written to the stack wherever it is indexed
+    checked_number(s, at, &table)
 }
 
 // Whether a field is a currency: three letters.

@@ -139,21 +139,21 @@ tell-back : (x n m : ℕ) (d e : Digit) → d < 10 → e < 10 → n ≡ x + (dou
 tell-back x n m d e p q is-n is-m h = tell x n m e d q p is-n is-m h ∙ alike-back d e
 
 -- What the first of some digits counts, doubled or not
-abbrev worth : Bool → Digit → ℕ
-worth true d = doubled d
-worth false d = d
+abbrev weight : Bool → Digit → ℕ
+weight true d = doubled d
+weight false d = d
 
-worth-first : (first : Bool) (d : Digit) (ds : List Digit) → counted first (d ∷ ds) ≡ worth first d + counted (not first) ds
-worth-first true d ds = refl
-worth-first false d ds = refl
+weight-first : (first : Bool) (d : Digit) (ds : List Digit) → counted first (d ∷ ds) ≡ weight first d + counted (not first) ds
+weight-first true d ds = refl
+weight-first false d ds = refl
 
-worth-low : (first : Bool) (d : Digit) → d < 10 → worth first d < 10
-worth-low true d h = omega arith
-worth-low false d h = h
+weight-low : (first : Bool) (d : Digit) → d < 10 → weight first d < 10
+weight-low true d h = omega arith
+weight-low false d h = h
 
-worth-same : (first : Bool) (d e : Digit) → d < 10 → e < 10 → worth first d ≡ worth first e → d ≡ e
-worth-same true d e p q same = twice-same d e (doubled d) (doubled e) (twice d p) (twice e q) same
-worth-same false d e p q same = same
+weight-same : (first : Bool) (d e : Digit) → d < 10 → e < 10 → weight first d ≡ weight first e → d ≡ e
+weight-same true d e p q same = twice-same d e (doubled d) (doubled e) (twice d p) (twice e q) same
+weight-same false d e p q same = same
 
 -- Of two sums that differ in one part, below 10, only one ends in 0
 part-same : (x y v w : ℕ) → v < 10 → w < 10 → (x + (v + y)) % 10 ≡ 0 → (x + (w + y)) % 10 ≡ 0 → v ≡ w
@@ -221,15 +221,15 @@ module _ (s t : Text) where
       let d = digit-digits b p in
       let e = digit-digits c q in
       let y = counted (not first) (fromEnd s) in
-      let is : (b : Byte) → isDigit b ≡ true → counted false (fromEnd (s ++ (b ∷ t))) ≡ rest + (worth first (b - 48) + y) =
-      λ b p. with-one b ((b - 48) ∷ []) (digit-digits b p .0) ∙ ap (λ (n : ℕ). rest + n) (worth-first first (b - 48) (fromEnd s)) in
+      let is : (b : Byte) → isDigit b ≡ true → counted false (fromEnd (s ++ (b ∷ t))) ≡ rest + (weight first (b - 48) + y) =
+      λ b p. with-one b ((b - 48) ∷ []) (digit-digits b p .0) ∙ ap (λ (n : ℕ). rest + n) (weight-first first (b - 48) (fromEnd s)) in
       let n = counted false (fromEnd (s ++ (b ∷ t))) in
       let m = counted false (fromEnd (s ++ (c ∷ t))) in
       ne-eqb (m % 10) 0
       (λ z.
       let same =
-      worth-same first (b - 48) (c - 48) (d .1) (e .1)
-      (part-same rest y (worth first (b - 48)) (worth first (c - 48)) (worth-low first (b - 48) (d .1)) (worth-low first (c - 48) (e .1))
+      weight-same first (b - 48) (c - 48) (d .1) (e .1)
+      (part-same rest y (weight first (b - 48)) (weight first (c - 48)) (weight-low first (b - 48) (d .1)) (weight-low first (c - 48) (e .1))
       (rw (is b p) at (eqb-true (n % 10) 0 h))
       (rw (is c q) at z)) in
       other (omega (arith, same, bounds 48 57 b p, bounds 48 57 c q)))

@@ -37,39 +37,39 @@ pub record Checked : Type 0 where
   pub swapped : (s t : Text) (b c : Byte) → (isLetter b || isDigit b) ≡ true → (isLetter c || isDigit c) ≡ true
       → hasCheckDigit (s ++ (b ∷ c ∷ t)) ≡ true → hasCheckDigit (s ++ (c ∷ b ∷ t)) ≡ hidden b c
 
--- Digits and letters
-abbrev digits : Text
-digits = ascii "0123456789"
+-- All digits, and all letters
+abbrev tenDigits : Text
+tenDigits = ascii "0123456789"
 
-abbrev letters : Text
-letters = ascii "ABCDEFGHIJKLMNOPQRSTUVWXYZ"
+abbrev allLetters : Text
+allLetters = ascii "ABCDEFGHIJKLMNOPQRSTUVWXYZ"
 
 -- Which of some texts are codes
-abbrev codes : List String → List Bool
-codes texts = map (λ text. isCode (ascii text)) texts
+abbrev areCodes : List String → List Bool
+areCodes texts = map (λ text. isCode (ascii text)) texts
 
 -- The table
 abbrev pub Codes : Type 0
 Codes =
     -- In digits, letters as 10 to 35; a digit doubled; the whole, of which every second from the right is doubled
     (map inDigits (ascii "09AZ") ≡ (0 ∷ []) ∷ (9 ∷ []) ∷ (1 ∷ 0 ∷ []) ∷ (3 ∷ 5 ∷ []) ∷ [])
-    × (map (λ b. doubled (b - 48)) digits ≡ 0 ∷ 2 ∷ 4 ∷ 6 ∷ 8 ∷ 1 ∷ 3 ∷ 5 ∷ 7 ∷ 9 ∷ [])
+    × (map (λ b. doubled (b - 48)) tenDigits ≡ 0 ∷ 2 ∷ 4 ∷ 6 ∷ 8 ∷ 1 ∷ 3 ∷ 5 ∷ 7 ∷ 9 ∷ [])
     × (joinedUp (map inDigits (ascii "FR0011337880")) ≡ 1 ∷ 5 ∷ 2 ∷ 7 ∷ 0 ∷ 0 ∷ 1 ∷ 1 ∷ 3 ∷ 3 ∷ 7 ∷ 8 ∷ 8 ∷ 0 ∷ [])
     × (counted false (0 ∷ 8 ∷ 8 ∷ 7 ∷ 3 ∷ 3 ∷ 1 ∷ 1 ∷ 0 ∷ 0 ∷ 7 ∷ 2 ∷ 5 ∷ 1 ∷ []) ≡ 50)
     -- Codes of securities that are listed, and one that is made up
-    × (codes ("FR0011337880" ∷ "ZZ0000000016" ∷ "US0378331005" ∷ "GB0002634946" ∷ "DE0007164600" ∷ "JP3633400001" ∷ []) ≡ replicate 6 true)
-    × (codes ("AU0000XVGZA3" ∷ "IE00B4BNMY34" ∷ "US38259P5089" ∷ []) ≡ replicate 3 true)
+    × (areCodes ("FR0011337880" ∷ "ZZ0000000016" ∷ "US0378331005" ∷ "GB0002634946" ∷ "DE0007164600" ∷ "JP3633400001" ∷ []) ≡ replicate 6 true)
+    × (areCodes ("AU0000XVGZA3" ∷ "IE00B4BNMY34" ∷ "US38259P5089" ∷ []) ≡ replicate 3 true)
     -- Two digits swapped; the right digit and no other
-    × (codes ("FR0011337808" ∷ "US0378330105" ∷ []) ≡ false ∷ false ∷ [])
-    × (only (λ b. isCode (ascii "FR001133788" ++ (b ∷ []))) digits ≡ ascii "0")
+    × (areCodes ("FR0011337808" ∷ "US0378330105" ∷ []) ≡ false ∷ false ∷ [])
+    × (only (λ b. isCode (ascii "FR001133788" ++ (b ∷ []))) tenDigits ≡ ascii "0")
     -- The letters that a digit beside them can be swapped with; the digits that 0, 4 and 9 can be
-    × (only twinLetter letters ≡ ascii "BMX")
-    × (map (λ b. only (hidden b) digits) (ascii "049") ≡ ascii "09" ∷ ascii "4" ∷ ascii "09" ∷ [])
+    × (only twinLetter allLetters ≡ ascii "BMX")
+    × (map (λ b. only (hidden b) tenDigits) (ascii "049") ≡ ascii "09" ∷ ascii "4" ∷ ascii "09" ∷ [])
     -- Not shown: 0 and 9 swapped, two letters swapped, M and 3 swapped, C for K
-    × (codes ("FR0011337096" ∷ "FR0011337906" ∷ "US000AB00016" ∷ "US000BA00016" ∷ []) ≡ replicate 4 true)
-    × (codes ("US000M300014" ∷ "US0003M00014" ∷ "CA0000000004" ∷ "KA0000000004" ∷ []) ≡ replicate 4 true)
+    × (areCodes ("FR0011337096" ∷ "FR0011337906" ∷ "US000AB00016" ∷ "US000BA00016" ∷ []) ≡ replicate 4 true)
+    × (areCodes ("US000M300014" ∷ "US0003M00014" ∷ "CA0000000004" ∷ "KA0000000004" ∷ []) ≡ replicate 4 true)
 
 -- The claim
-pub codesChecked : Codes
+pub codes : Codes
 unfolding hasCodeForm hasCheckDigit isCode
-codesChecked = (refl, refl, refl, refl, refl, refl, refl, refl, refl, refl, refl, refl)
+codes = (refl, refl, refl, refl, refl, refl, refl, refl, refl, refl, refl, refl)

@@ -4,7 +4,7 @@
 use Prim.Native.Nat.{ℕ, _+_, _-_, _*_, _/_, _%_, _^_, _≤_, _<_}
 use native.Mathlib.Omega.{arith}
 use mathlib.Core.Bool.{Bool, true, false, cond, _&&_}
-use mathlib.Core.List.{List, reverse}
+use mathlib.Core.List.{List}
 use mathlib.Core.Logic.{⊎-elim}
 use mathlib.Core.Path.{_≡_, refl, sym, ap, _∙_}
 use borrow.Author.Tests.{not-true, not-false, ne-eqb, eq-eqb, lt-leb, le-leb}
@@ -13,19 +13,19 @@ use lib.ListN.{length, getD}
 use lib.Seq.{slice}
 use Rattle.paper.specs.Units.{Byte}
 use Rattle.paper.specs.Lists.{between}
-use Rattle.paper.specs.Text.{isDigit, isLetter, inDigits, counted}
+use Rattle.paper.specs.Text.{isDigit, isLetter}
 use Rattle.paper.proofs.Lists.{never, bounds}
-use Rattle.fields.specs.Values.{worthOf, checkedOr}
+use Rattle.fields.specs.Values.{byteCounts, checkedOr}
 use Rattle.fields.proofs.Numbers.{mixed-within}
-use Rattle.fields.proofs.Checks.{mixed, worth-at, Worth, none, some, worth-is, Read, Moved, room, start, stopped, next, ended}
+use Rattle.fields.proofs.Checks.{mixed, table-at, Its, Judged, none, some, judged, Read, Moved, room, start, stopped, next, ended}
 use Rattle.fields.proofs.checked_number.Statement.{statement}
 use Rattle.fields.proofs.checked_number.Tie as tie
 
 abbrev Inv-loop : tie.InvT-loop
-Inv-loop s at worth n₀ counts₀ i₀ n counts i = Read s at n counts i
+Inv-loop s at table n₀ counts₀ i₀ n counts i = Read s at n counts i
 
 abbrev μ-loop : tie.MeasureT-loop
-μ-loop s at worth n₀ counts₀ i₀ n counts i = 11 - i
+μ-loop s at table n₀ counts₀ i₀ n counts i = 11 - i
 
 -- What holds at the loop
 there : (c : tie.At-loop Inv-loop μ-loop) → c .before .before .args .at + 12 ≤ length (c .before .before .args .s .now)
@@ -69,21 +69,21 @@ sub-more : tie.Need-sub-more Inv-loop μ-loop
 sub-more c = bounds 48 90 (byte (c .before .before .before)) (within c) .0
 
 cast-more : tie.Need-cast-more Inv-loop μ-loop
-cast-more c = omega (arith, worth-at (byte (c .before .before .before)) (within c) .0)
+cast-more c = omega (arith, table-at (byte (c .before .before .before)) (within c) .0)
 
 mul-more : tie.Need-mul-more Inv-loop μ-loop
-mul-more c = omega (arith, worth-at (byte (c .before .before .before)) (within c) .0)
+mul-more c = omega (arith, table-at (byte (c .before .before .before)) (within c) .0)
 
 element-copy-out-more : tie.Need-element-copy-out-more Inv-loop μ-loop
-element-copy-out-more c = worth-at (byte (c .before .before .before)) (within c) .0
+element-copy-out-more c = table-at (byte (c .before .before .before)) (within c) .0
 
 -- What the table has for the byte
 from-table : (c : tie.Else1 Inv-loop μ-loop)
-    → getD (c .before .before .before .before .before .before .args .worth .now) (byte (c .before .before .before) - 48) 0
-    ≡ worthOf (byte (c .before .before .before))
+    → getD (c .before .before .before .before .before .before .args .table .now) (byte (c .before .before .before) - 48) 0
+    ≡ byteCounts (byte (c .before .before .before))
 from-table c =
     let b = byte (c .before .before .before) in
-    ap (λ (ws : List ℕ). getD ws (b - 48) 0) (c .before .before .before .before .before .before .pre .1) ∙ worth-at b (within c) .1
+    ap (λ (ws : List ℕ). getD ws (b - 48) 0) (c .before .before .before .before .before .before .pre .1) ∙ table-at b (within c) .1
 
 returns-2 : tie.Need-returns-2 Inv-loop μ-loop
 returns-2 c =
@@ -92,30 +92,19 @@ returns-2 c =
     let a = k .before .before .before .args in
     let l = k .before .loop in
     stopped (a .s .now) (a .at) (there (k .before)) (l .n) (l .counts) (l .i) (k .loop-test .taken) (l .inv)
-    (out-of (byte k) (sym (from-table e) ∙ c .if2 .taken) (worth-is (byte k)))
+    (out-of (byte k) (sym (from-table e) ∙ c .if2 .taken) (judged (byte k)))
   where
-    out-of : (b : Byte) → worthOf b ≡ 65535 → Worth b → mixed b ≡ false
+    out-of : (b : Byte) → byteCounts b ≡ 65535 → Judged b → mixed b ≡ false
     out-of b e (none k is) = k
-    out-of b e (some k once twice is-once is-twice once-low twice-low is) = absurd (omega arith)
+    out-of b e (some w) = absurd (omega (arith, e, w .counts, w .once-low, w .twice-low))
 
--- What the next turn holds, in a record of the byte's two numbers
-record Its (b : Byte) : Type 0 where
-  once : ℕ
-  twice : ℕ
-  is-mixed : mixed b ≡ true
-  is-once : once ≡ counted false (reverse (inDigits b))
-  is-twice : twice ≡ counted true (reverse (inDigits b))
-  once-low : once ≤ 18
-  twice-low : twice ≤ 18
-  worth : worthOf b ≡ once + 256 * twice
-
+-- The byte is one that a code may have
 its : (c : tie.Else2 Inv-loop μ-loop) → Its (byte (c .before .before .before .before .before))
-its c = go (worth-is (byte (c .before .before .before .before .before)))
+its c = go (judged (byte (c .before .before .before .before .before)))
   where
-    go : Worth (byte (c .before .before .before .before .before)) → Its (byte (c .before .before .before .before .before))
+    go : Judged (byte (c .before .before .before .before .before)) → Its (byte (c .before .before .before .before .before))
     go (none k is) = absurd (c .if2 .left (from-table (c .before .before) ∙ is))
-    go (some k once twice is-once is-twice once-low twice-low is) =
-        record { once = once; twice = twice; is-mixed = k; is-once = is-once; is-twice = is-twice; once-low = once-low; twice-low = twice-low; worth = is }
+    go (some w) = w
 
 mul-n : tie.Need-mul-n Inv-loop μ-loop
 mul-n c =
@@ -159,15 +148,15 @@ again : (c : tie.Joined3 Inv-loop μ-loop)
     → let k = c .before .before .before .before .before .before in
     let a = k .before .before .before .args in
     let l = k .before .loop in
-    Read (a .s .now) (a .at) (43 * l .n + (byte k - 48)) (c .if3 .moved + getD (a .worth .now) (byte k - 48) 0) (l .i + 1)
+    Read (a .s .now) (a .at) (43 * l .n + (byte k - 48)) (c .if3 .moved + getD (a .table .now) (byte k - 48) 0) (l .i + 1)
 again c =
     let e = c .before .before .before in
     let k = e .before .before .before in
     let a = k .before .before .before .args in
     let l = k .before .loop in
     let w = its (c .before) in
-    rw (from-table e ∙ w .worth)
-    (next (a .s .now) (a .at) (there (k .before)) (l .n) (l .counts) (l .i) (c .if3 .moved) (w .once) (w .twice) (k .loop-test .taken) (l .inv) (w .is-mixed) (within e) (w .is-once) (w .is-twice) (w .once-low) (w .twice-low)
+    rw (from-table e ∙ w .counts)
+    (next (a .s .now) (a .at) (there (k .before)) (l .n) (l .counts) (l .i) (c .if3 .moved) (k .loop-test .taken) (l .inv) w (within e)
     (⊎-elim (λ m. moved-digit (byte k) (l .counts) (c .if3 .moved) (m .0 .taken) (m .1)) (λ m. moved-letter (byte k) (l .counts) (c .if3 .moved) (within e) (m .0 .left) (m .1)) (c .if3 .came)))
 
 add-counts : tie.Need-add-counts Inv-loop μ-loop
