@@ -4,14 +4,14 @@
 use Prim.Native.Nat.{ℕ, _+_, _-_, _*_, _/_, _%_, _≤_, _<_}
 use native.Mathlib.Nat.{add-assoc, zero-add}
 use native.Mathlib.Omega.{arith}
-use mathlib.Core.Bool.{Bool, true, false, not, cond, _&&_, _||_}
+use mathlib.Core.Bool.{Bool, true, false, not, cond, _||_, and-false}
 use mathlib.Core.List.{List, [], _∷_, _++_, map, reverse, reverse-append, append-assoc}
 use mathlib.Core.Path.{_≡_, refl, sym, ap, ap₂, _∙_}
 use borrow.Author.Tests.{eqb-true, eqb-false, eq-eqb, ne-eqb, lt-leb, ltb-true, ltb-false}
 use lib.Dec.{eqb, ltb}
 use Rattle.paper.specs.Units.{Byte, Digit, Text}
 use Rattle.paper.specs.Lists.{joinedUp}
-use Rattle.paper.specs.Text.{isDigit, isLetter, inDigits, doubled, counted, hasCodeForm, hasCheckDigit, isCode}
+use Rattle.paper.specs.Text.{isDigit, isLetter, inDigits, doubled, counted, hasCheckDigit, isCode}
 use Rattle.paper.specs.Codes.{alike, hidden, Checked}
 use Rattle.paper.proofs.Lists.{never, bounds, joined-parts}
 
@@ -278,9 +278,4 @@ module _ (s t : Text) where
 -- What the check is worth
 pub checked : Checked
 unfolding isCode
-checked =
-    record { refused = λ t h. rw h (and-false (hasCodeForm t)); changed = changed; swapped = swapped }
-  where
-    and-false : (a : Bool) → (a && false) ≡ false
-    and-false true = refl
-    and-false false = refl
+checked = record { refused = λ t h. simp (h, and-false); changed = changed; swapped = swapped }

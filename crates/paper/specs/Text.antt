@@ -116,7 +116,7 @@ signedIn (b ∷ bs) = elim (eqb b hyphen) [ true ↦ numberIn bs >>= below | fal
 unfoldable pub dateIn : Text → Date
 dateIn t = cond (eqb (length t) 8 && every isDigit t) (decimal 0 t) 0
 
--- The form of a code: two letters, nine letters or digits, one digit
+-- The form of a code (01): two letters, nine letters or digits, one digit
 unfoldable pub hasCodeForm : Text → Bool
 hasCodeForm t =
     eqb (length t) 12
@@ -143,7 +143,7 @@ counted false (d ∷ ds) = d + counted true ds
 unfoldable pub hasCheckDigit : Text → Bool
 hasCheckDigit t = eqb (counted false (reverse (joinedUp (map inDigits t))) % 10) 0
 
--- A code
+-- A code (01; 02, b): the form of one, and a last digit that checks it
 unfoldable pub isCode : Text → Bool
 isCode t = hasCodeForm t && hasCheckDigit t
 
