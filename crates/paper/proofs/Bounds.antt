@@ -37,7 +37,8 @@ use Rattle.paper.specs.Rows.{Trade, repo, cash, Side, seller, purchaser,
 use Rattle.paper.specs.Valuation.{lastDay, margined, accrualDay, accrued, accruedOn, revaluated, interest, interestOf, signOf, markToMarket, Valued, valued}
 use Rattle.paper.proofs.Lists.{tests, holds}
 use Rattle.paper.proofs.Days.{working-after, working-within}
-use Rattle.paper.proofs.Sizes.{size-difference, size-product, nearest-at-most, rounded-at-most}
+use Rattle.paper.proofs.Rounding.{nearest-at-most}
+use Rattle.paper.proofs.Sizes.{size-difference, size-product, rounded-at-most}
 use Rattle.paper.proofs.Rules.{SecurityFacts, TradeFacts}
 
 -- ---- the table, each with what it comes from

@@ -1,7 +1,7 @@
 -- Sizes of signed numbers, over any bound and of any unit: of a negative, a sum, a product, a part, a rounding.
 -- The size of a number is what it is without its sign.
 use Prim.Native.Nat.{ℕ, zero, suc, _+_, _-_, _*_, _≤_, _<_}
-use native.Mathlib.Nat.{le-refl, le-of-suc-le-suc, suc-mul, div-lt-iff-lt-mul}
+use native.Mathlib.Nat.{le-refl, suc-mul}
 use native.Mathlib.Omega.{arith}
 use mathlib.Core.Bool.{Bool, true, false, cond, not}
 use mathlib.Core.List.{List, [], _∷_}
@@ -12,7 +12,7 @@ use lib.ListN.{length}
 use Rattle.paper.specs.Rounding.{nearest, rounded}
 use Rattle.paper.specs.Signs.{aboveZero, belowZero, signedSum}
 use Rattle.paper.proofs.Lists.{Each, nil, cons}
-use Rattle.paper.proofs.Rounding.{nearest-below}
+use Rattle.paper.proofs.Rounding.{nearest-at-most, nearest-below, rounded-pos, rounded-negsuc}
 
 -- A negative has its number's size
 pub size-neg : (z : ℤ) → natAbs (negℤ z) ≡ natAbs z
@@ -69,16 +69,6 @@ pub below-within : (z : ℤ) → belowZero z ≤ natAbs z
 below-within (pos n) = omega arith
 below-within (negsuc n) = le-refl (suc n)
 
--- A number that is not below zero is rounded by its part above zero
-pub rounded-pos : (n d : ℕ) → rounded (pos n) d ≡ pos (nearest n d)
-unfolding rounded
-rounded-pos n d = refl
-
--- A number below zero is rounded by its part below zero, and its sign put back
-pub rounded-negsuc : (n d : ℕ) → rounded (negsuc n) d ≡ negℤ (pos (nearest (suc n) d))
-unfolding rounded
-rounded-negsuc n d = refl
-
 -- The size is what is rounded
 pub size-rounded : (z : ℤ) (d : ℕ) → natAbs (rounded z d) ≡ nearest (natAbs z) d
 size-rounded (pos n) d = rw (rounded-pos n d)
@@ -88,13 +78,7 @@ size-rounded (negsuc n) d = rw (rounded-negsuc n d) (size-neg (pos (nearest (suc
 pub rounded-within : (z : ℤ) (d : ℕ) → 0 < d → natAbs (rounded z d) ≤ natAbs z
 rounded-within z d h = rw (size-rounded z d) (nearest-below (natAbs z) d h)
 
--- What is divided is at most so many divisors, and so its rounded quotient at most so many
-pub nearest-at-most : (product most divisor : ℕ) → 0 < divisor → product ≤ most * divisor
-    → nearest product divisor ≤ most
-unfolding nearest
-nearest-at-most p m d h k = le-of-suc-le-suc (div-lt-iff-lt-mul h .1 (omega (arith, suc-mul m d)))
-
--- The same of a signed number, by its size
+-- What is divided is at most so many divisors in size, and so its rounded quotient
 pub rounded-at-most : (z : ℤ) (most divisor : ℕ) → 0 < divisor → natAbs z ≤ most * divisor
     → natAbs (rounded z divisor) ≤ most
 rounded-at-most z m d h k = rw (size-rounded z d) (nearest-at-most (natAbs z) m d h k)

@@ -11,8 +11,8 @@ use mir.Val.{SFits, toZ, ofZ}
 use mir.ValLaws.{toZ-ofZ}
 use Rattle.paper.specs.Rounding.{nearest, rounded}
 use Rattle.paper.specs.Signs.{aboveZero, belowZero}
-use Rattle.paper.proofs.Rounding.{nearest-below}
-use Rattle.paper.proofs.Sizes.{rounded-pos, rounded-negsuc, rounded-within}
+use Rattle.paper.proofs.Rounding.{nearest-below, rounded-pos, rounded-negsuc}
+use Rattle.paper.proofs.Sizes.{rounded-within}
 use Rattle.whole.proofs.Signs.{below, not-below, read-back}
 
 -- Rounding goes by the part that the sign's test shows: below zero
@@ -24,19 +24,15 @@ pub rounded-above : (z : ℤ) (d : ℕ) → ltZ z (pos 0) ≡ false → rounded 
 rounded-above z d e = not-below (λ z. rounded z d ≡ pos (nearest (aboveZero z) d)) z e (λ n. rounded-pos n d)
 
 -- One side of a signed local, rounded, with its sign put back: `part` is the side, `put` the sign
-module _ (part : ℤ → ℕ) (within : (z : ℤ) → part z ≤ natAbs z) (z : ℤ) (f : SFits w64 z) (small : natAbs z < 2 ^ 63) where
-  -- The side is small
-  pub part-small : {side : ℕ} → side ≡ part (toZ w64 (ofZ w64 z)) → side < 2 ^ 63
-  part-small e = omega (arith, e, ap part (toZ-ofZ w64 z f), within z)
+module _ (part : ℤ → ℕ) (within : (z : ℤ) → part z ≤ natAbs z) (z : ℤ) (f : SFits w64 z) (small : natAbs z < 2 ^ 63)
+    (d : ℕ) (h : 0 < d) {side size : ℕ} (e : side ≡ part (toZ w64 (ofZ w64 z))) (e′ : size ≡ nearest side d) where
+  -- What the side is rounded to is small
+  pub size-small : size < 2 ^ 63
+  size-small = omega (arith, e′, nearest-below side d h, e, ap part (toZ-ofZ w64 z f), within z)
 
-  module _ (d : ℕ) (h : 0 < d) {side size : ℕ} (e : side ≡ part (toZ w64 (ofZ w64 z))) (e′ : size ≡ nearest side d) where
-    -- So is what it is rounded to
-    pub size-small : size < 2 ^ 63
-    size-small = omega (arith, e′, nearest-below side d h, part-small e)
-
-    -- What is read back is the rounded number
-    pub rounded-back : (put : ℕ → ℤ) {r : ℤ} → r ≡ put size → rounded z d ≡ put (nearest (part z) d) → toZ w64 (ofZ w64 r) ≡ rounded z d
-    rounded-back put e″ law =
-        read-back (rounded z d)
-        (e″ ∙ ap put (e′ ∙ ap (λ (n : ℕ). nearest n d) (e ∙ ap part (toZ-ofZ w64 z f))) ∙ sym law)
-        (lt-of-le-of-lt (rounded-within z d h) small)
+  -- What is read back is the rounded number
+  pub rounded-back : (put : ℕ → ℤ) {r : ℤ} → r ≡ put size → rounded z d ≡ put (nearest (part z) d) → toZ w64 (ofZ w64 r) ≡ rounded z d
+  rounded-back put e″ law =
+      read-back (rounded z d)
+      (e″ ∙ ap put (e′ ∙ ap (λ (n : ℕ). nearest n d) (e ∙ ap part (toZ-ofZ w64 z f))) ∙ sym law)
+      (lt-of-le-of-lt (rounded-within z d h) small)

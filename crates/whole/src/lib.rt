@@ -6,15 +6,24 @@ ghost use lib.IntN.{pos, negℤ, natAbs, _+ℤ_, _-ℤ_, _*ℤ_};
 ghost use Rattle.paper.specs.Rounding.{nearest as nearestOf, rounded as roundedOf};
 ghost use Rattle.paper.specs.Signs.{aboveZero, belowZero};
 
-// To the nearest, halves up; half the divisor is added before the division, so that has to fit.
+// To the nearest, by quotient and remainder; a tie goes up.
 pub fn nearest(
     product: u64, // any unit
     divisor: u64, // any unit
 ) -> u64
-    requires { ⌜ (0 < divisor) × (product < 2 ^ 63) × (divisor < 2 ^ 63) ⌝ }
+    requires { ⌜ 0 < divisor ⌝ }
     ensures { λ r. ⌜ r ≡ nearestOf product divisor ⌝ }
 {
-    (product + divisor / 2) / divisor
+    let quotient = product / divisor; // the product's unit over the divisor's
+    let remainder = product % divisor; // the product's unit
+    let missing = divisor - remainder; // the same
+    if remainder < missing {
+        quotient // less than half
+    } else if remainder == missing {
+        quotient + 1 // the tie: up
+    } else {
+        quotient + 1 // more than half
+    }
 }
 
 // The smaller of two numbers of one unit.
@@ -81,7 +90,7 @@ pub fn rounded(
     product: i64, // any unit
     divisor: u64, // any unit
 ) -> i64
-    requires { ⌜ (0 < divisor) × (natAbs product < 2 ^ 63) × (divisor < 2 ^ 63) ⌝ }
+    requires { ⌜ (0 < divisor) × (natAbs product < 2 ^ 63) ⌝ }
     ensures { λ r. ⌜ r ≡ roundedOf product divisor ⌝ }
 {
     if product < 0 {

@@ -31,7 +31,7 @@ small c = omega (arith, ap natAbs (net-is c), net-small (c .before .args .worth)
 
 rounded-requires : tie.Need-rounded-requires
 rounded-requires c κs =
-    (omega arith, omega (arith, c .pre .1, ap natAbs (toZ-ofZ w64 (c .args .worth) (c .fits .worth))), omega arith)
+    (omega arith, omega (arith, c .pre .1, ap natAbs (toZ-ofZ w64 (c .args .worth) (c .fits .worth))))
 
 mul-long : tie.Need-mul-long
 mul-long c = search needs

@@ -9,7 +9,7 @@ mul-nearest : tie.Need-mul-nearest
 mul-nearest c = record { fits = omega (arith, share-product-most (c .args .factor) (c .args .amount) (c .pre .0) (c .pre .1)) }
 
 nearest-requires : tie.Need-nearest-requires
-nearest-requires c κs = omega (arith, share-product-most (c .args .factor) (c .args .amount) (c .pre .0) (c .pre .1))
+nearest-requires c κs = search needs
 
 returns : tie.Need-returns
 returns c = search needs

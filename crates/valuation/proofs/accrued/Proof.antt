@@ -22,8 +22,7 @@ mul-nearest-2 : tie.Need-mul-nearest-2
 mul-nearest-2 c = record { fits = omega (arith, divisor-most c) }
 
 nearest-requires : tie.Need-nearest-requires
-nearest-requires c κs =
-    omega (arith, product-most c, accrual-divisor-low (c .args .payments) (c .args .period) (c .pre .1) (c .pre .4), divisor-most c)
+nearest-requires c κs = accrual-divisor-low (c .args .payments) (c .args .period) (c .pre .1) (c .pre .4)
 
 returns : tie.Need-returns
 returns c = search needs

@@ -10,7 +10,7 @@ mul-nearest : tie.Need-mul-nearest
 mul-nearest c = record { fits = lt-of-le-of-lt (worth-product-most _ _ (omega arith) (omega arith)) (omega arith) }
 
 nearest-requires : tie.Need-nearest-requires
-nearest-requires c κs = (omega arith, lt-of-le-of-lt (worth-product-most _ _ (omega arith) (omega arith)) (omega arith), omega arith)
+nearest-requires c κs = search needs
 
 returns : tie.Need-returns
 returns c = search needs

@@ -9,7 +9,7 @@ use mir.ValLaws.{toZ-ofZ}
 use Rattle.paper.specs.Signs.{aboveZero, belowZero}
 use Rattle.paper.proofs.Sizes.{above-within, below-within}
 use Rattle.whole.proofs.Signs.{test-on}
-use Rattle.whole.proofs.Parts.{rounded-below, rounded-above, part-small, size-small, rounded-back}
+use Rattle.whole.proofs.Parts.{rounded-below, rounded-above, size-small, rounded-back}
 use Rattle.whole.proofs.rounded.Statement.{statement}
 use Rattle.whole.proofs.rounded.Tie as tie
 
@@ -19,9 +19,7 @@ below-zero-requires c κs =
     omega (arith, s .pre .1, ap natAbs (toZ-ofZ w64 (s .args .product) (s .fits .product)))
 
 nearest-requires : tie.Need-nearest-requires
-nearest-requires c κs =
-    let s = c .before .before in
-    (s .pre .0, part-small belowZero below-within (s .args .product) (s .fits .product) (s .pre .1) (c .below-zero .ensures), s .pre .2)
+nearest-requires c κs = c .before .before .pre .0
 
 negative-requires : tie.Need-negative-requires
 negative-requires c κs =
@@ -34,9 +32,7 @@ above-zero-requires : tie.Need-above-zero-requires
 above-zero-requires c κs = search needs
 
 nearest-requires-2 : tie.Need-nearest-requires-2
-nearest-requires-2 c κs =
-    let s = c .before .before in
-    (s .pre .0, part-small aboveZero above-within (s .args .product) (s .fits .product) (s .pre .1) (c .above-zero .ensures), s .pre .2)
+nearest-requires-2 c κs = c .before .before .pre .0
 
 positive-requires : tie.Need-positive-requires
 positive-requires c κs =
