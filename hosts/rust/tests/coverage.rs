@@ -18,6 +18,30 @@ impl Seen {
             None => drop(self.0.insert(what.to_string(), is as u64)),
         }
     }
+
+    /// A quotient that lies at a half, by the number below its size: a rounding to the even neighbour differs above an
+    /// even one alone.
+    fn tie(&mut self, place: &str, product: u64, divisor: u64) {
+        if 2 * (product % divisor) == divisor {
+            self.note(&tied(place, product / divisor % 2 == 0), true);
+        }
+    }
+}
+
+/// Where a figure is rounded.
+const ROUNDED: [&str; 8] = [
+    "an accrued coupon",
+    "a revaluated amount",
+    "interest above zero",
+    "interest below zero",
+    "a net above zero",
+    "a net below zero",
+    "an offset",
+    "a class margin",
+];
+
+fn tied(place: &str, even: bool) -> String {
+    format!("{place} at a half above an {} number", if even { "even" } else { "odd" })
 }
 
 /// The smallest and the largest value of each numeric field and of each section's rows, and how they must come out.
@@ -48,6 +72,10 @@ const RANGES: [(&str, i64, i64); 21] = [
 #[test]
 fn the_generator_reaches_everything() {
     let mut seen = Seen::default();
+    for place in ROUNDED {
+        seen.note(&tied(place, true), false);
+        seen.note(&tied(place, false), false);
+    }
     let mut ranges: BTreeMap<String, (i64, i64)> = BTreeMap::new();
     let mut lines: BTreeMap<u64, (u64, u64)> = BTreeMap::new();
     let mut report = vec![0; 100_000];
@@ -96,21 +124,18 @@ fn figures(tables: &Tables, seen: &mut Seen) {
         let run = trade.accrual - security.previous;
         let divisor = security.payments * (security.next - security.previous);
         let accrued = plain::accrued(security, trade.accrual);
-        seen.note("accrued coupon at a half", 2 * (security.coupon * run) % (2 * divisor) == divisor);
+        seen.tie("an accrued coupon", (security.coupon * run) as u64, divisor as u64);
         seen.note("accrual on the previous coupon date", run == 0);
         seen.note("accrual on the day before the next", trade.accrual + 1 == security.next);
         let worth = trade.nominal as u64 * (security.price + accrued) as u64;
-        seen.note("revaluated amount at a half", worth % 100_000 == 50_000);
+        seen.tie("a revaluated amount", worth, 100_000);
         let interest = trade.interest_days as u64 * trade.amount * trade.rate.unsigned_abs() as u64;
-        let half = interest % 36_000_000_000 == 18_000_000_000;
-        seen.note("interest at a half above zero", half && trade.rate > 0);
-        seen.note("interest at a half below zero", half && trade.rate < 0);
+        seen.tie(if trade.rate < 0 { "interest below zero" } else { "interest above zero" }, interest, 36_000_000_000);
         let cents = plain::revaluated(trade.nominal, security.price, accrued) as i64;
         nets[trade.security as usize] += if trade.long { cents } else { -cents };
     }
     for &cents in &nets {
-        seen.note("net at a half above zero", cents > 0 && cents % 100 == 50);
-        seen.note("net at a half below zero", cents < 0 && cents % 100 == -50);
+        seen.tie(if cents < 0 { "a net below zero" } else { "a net above zero" }, cents.unsigned_abs(), 100);
         seen.note("net of -50 cents", cents == -50);
         seen.note("net of -49 to -1 cents", (-49..0).contains(&cents));
     }
@@ -133,14 +158,13 @@ fn figures(tables: &Tables, seen: &mut Seen) {
             seen.note("an offset by factor 10,000", all[0] > 0 && row.factor == 10_000);
             for ((of, and), least) in pairs.into_iter().zip(all) {
                 let taken = plain::share(row.factor, least);
-                seen.note("an offset at a half", row.factor as u64 * least % 10_000 == 5_000);
+                seen.tie("an offset", row.factor as u64 * least, 10_000);
                 long[of] -= taken;
                 short[and] -= taken;
             }
         }
         for ((class, &long), &short) in tables.classes.iter().zip(&long).zip(&short) {
-            let margin = class.deposit as u64 * long.max(short);
-            seen.note("a class margin at a half", margin % 10_000 == 5_000);
+            seen.tie("a class margin", class.deposit as u64 * long.max(short), 10_000);
             seen.note("both sides remain, long larger", long > short && short > 0);
             seen.note("both sides remain, short larger", short > long && long > 0);
         }

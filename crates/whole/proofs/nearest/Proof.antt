@@ -1,7 +1,7 @@
 -- `nearest` meets its contract: its tests are those of the paper's three cases. What goes up is not above the product, so it fits.
 use Prim.Native.Nat.{_+_, _/_}
 use borrow.Author.Needs.{needs}
-use native.Mathlib.Nat.{le-of-lt, mod-lt}
+use native.Mathlib.Nat.{mod-lt}
 use native.Mathlib.Omega.{arith}
 use mathlib.Core.Path.{_≡_, sym}
 use Rattle.paper.specs.Rounding.{nearest}
@@ -23,7 +23,7 @@ rem-remainder : tie.Need-rem-remainder
 rem-remainder c = search needs
 
 sub-missing : tie.Need-sub-missing
-sub-missing c = le-of-lt (mod-lt (c .args .product) (c .pre))
+sub-missing c = omega (arith, mod-lt (c .args .product) (c .pre))
 
 add-result : tie.Need-add-result
 add-result c =
