@@ -32,7 +32,7 @@ nearest-more p d h = rw (nearest, le-ltb (p % d) (d - p % d) (omega arith), ne-e
 -- ---- what they come to: all else follows from this
 
 -- A number times the divisor is at most half a divisor from the product, and is not the one below a tie
-abbrev Near : ℕ → ℕ → ℕ → Type 0
+abbrev pub Near : ℕ → ℕ → ℕ → Type 0
 Near product divisor n = (2 * (n * divisor) ≤ 2 * product + divisor) × (2 * product < 2 * (n * divisor) + divisor)
 
 -- What is rounded is so near

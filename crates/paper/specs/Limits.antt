@@ -12,7 +12,7 @@ use lib.ListN.{getD, set, take, replicate}
 use Rattle.paper.specs.Units.{Text, Number, Line, Class, Duration, SignedCents}
 use Rattle.paper.specs.Lists.{joinedUp, given}
 use Rattle.paper.specs.Signs.{aboveZero, belowZero}
-use Rattle.paper.specs.Rounding.{nearest, rounded}
+use Rattle.paper.specs.Rounding.{lessThanHalf, tie, moreThanHalf, byHalf, nearest, rounded}
 use Rattle.paper.specs.Days.{day, isDay, isOpen, workingAfter}
 use Rattle.paper.specs.Text.{ascii, LF, semicolon, pieces, lines, parted, isDigit, isLetter, numberIn, dateIn, hasCodeForm, hasCheckDigit, isCode, digits}
 use Rattle.paper.specs.Rows.{Kind, government, corporate, inflation, floating, cash, seller, ClassRow, PriorityRow, SecurityRow, TradeRow, kindIn, readPriority}
@@ -178,11 +178,13 @@ Limits =
     × (marks 9 7 "20190612" ≡ pos 100_000 ∷ []) × (marks 9 7 "20190613" ≡ pos 1_028_170 ∷ pos 100_000 ∷ [])
     -- Long and short of a class are sums, of the nets above zero and of those below
     × (map (λ side. position (summed side (map (λ net. record { class = 1; net = net }) (pos 5 ∷ pos 3 ∷ negℤ (pos 2) ∷ []))) 1) (aboveZero ∷ belowZero ∷ []) ≡ 8 ∷ 2 ∷ [])
-    -- To the nearest: a divisor that has no tie; a tie beside an even quotient and one beside an odd, with what lies on both
-    -- sides of each, above zero and below
+    -- Half of a divisor: less, the tie, more. To the nearest: an odd divisor, which has no tie; a tie above an even number and
+    -- one above an odd, with what lies about each, above zero and below
+    × (map (λ over. byHalf over 100) (0 ∷ 49 ∷ 50 ∷ 51 ∷ 99 ∷ []) ≡ lessThanHalf ∷ lessThanHalf ∷ tie ∷ moreThanHalf ∷ moreThanHalf ∷ [])
     × (map (λ n. nearest n 365) (182 ∷ 183 ∷ []) ≡ 0 ∷ 1 ∷ [])
-    × (map (λ n. nearest n 100) (49 ∷ 50 ∷ 51 ∷ 149 ∷ 150 ∷ 151 ∷ []) ≡ 0 ∷ 1 ∷ 1 ∷ 1 ∷ 2 ∷ 2 ∷ [])
-    × (map (λ n. rounded (negℤ (pos n)) 100) (49 ∷ 50 ∷ 51 ∷ 149 ∷ 150 ∷ 151 ∷ []) ≡ map (λ n. negℤ (pos n)) (0 ∷ 1 ∷ 1 ∷ 1 ∷ 2 ∷ 2 ∷ []))
+    × (map (λ n. nearest n 100) (49 ∷ 50 ∷ 51 ∷ 99 ∷ 100 ∷ 149 ∷ 150 ∷ 151 ∷ []) ≡ 0 ∷ 1 ∷ 1 ∷ 1 ∷ 1 ∷ 1 ∷ 2 ∷ 2 ∷ [])
+    × (map (λ n. rounded (negℤ (pos n)) 100) (49 ∷ 50 ∷ 51 ∷ 99 ∷ 100 ∷ 149 ∷ 150 ∷ 151 ∷ [])
+    ≡ map (λ n. negℤ (pos n)) (0 ∷ 1 ∷ 1 ∷ 1 ∷ 1 ∷ 1 ∷ 2 ∷ 2 ∷ []))
     -- A row takes both pairs of two classes; the larger side; never below zero
     × (offsetRow priority (record { long = 0 ∷ 100 ∷ 50 ∷ []; short = 0 ∷ 70 ∷ 30 ∷ [] }) ≡ record { long = 0 ∷ 70 ∷ 0 ∷ []; short = 0 ∷ 20 ∷ 0 ∷ [] })
     × (margin 5_000 3 5 ≡ 3) × (margin 5_000 5 3 ≡ 3) × (map (total 5) (negℤ (pos 1) ∷ pos 499 ∷ pos 500 ∷ pos 501 ∷ []) ≡ 501 ∷ 1 ∷ 0 ∷ 0 ∷ [])
@@ -196,4 +198,4 @@ Limits =
 -- The claim
 pub limits : Limits
 unfolding nearest rounded isOpen workingAfter lines numberIn dateIn hasCodeForm hasCheckDigit isCode digits valuedFrom rowsFrom readSheet summed offsetRow offsetAll classLine currencyLines reportOf
-limits = (refl, refl, refl, refl, refl, refl, refl, refl, refl, refl, refl, refl, refl, refl, refl, refl, refl, refl, refl, refl, refl, refl, refl, refl, refl, refl, refl, refl, refl, refl, refl, refl, refl, refl, refl, refl, refl, refl, refl, refl, refl, refl, refl, refl, refl, refl, refl, refl, refl, refl, refl, refl, refl, refl, refl, refl, refl, refl, refl, refl, refl, refl, refl, refl, refl, refl, refl, refl, refl, refl, refl, refl, refl, refl, refl, refl, refl, refl, refl, refl, refl, refl, refl, refl, refl, refl, refl, refl, refl, refl)
+limits = (refl, refl, refl, refl, refl, refl, refl, refl, refl, refl, refl, refl, refl, refl, refl, refl, refl, refl, refl, refl, refl, refl, refl, refl, refl, refl, refl, refl, refl, refl, refl, refl, refl, refl, refl, refl, refl, refl, refl, refl, refl, refl, refl, refl, refl, refl, refl, refl, refl, refl, refl, refl, refl, refl, refl, refl, refl, refl, refl, refl, refl, refl, refl, refl, refl, refl, refl, refl, refl, refl, refl, refl, refl, refl, refl, refl, refl, refl, refl, refl, refl, refl, refl, refl, refl, refl, refl, refl, refl, refl, refl)
