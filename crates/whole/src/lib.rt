@@ -6,7 +6,7 @@ ghost use lib.IntN.{pos, negℤ, natAbs, _+ℤ_, _-ℤ_, _*ℤ_};
 ghost use Rattle.paper.specs.Rounding.{nearest as nearestOf, rounded as roundedOf};
 ghost use Rattle.paper.specs.Signs.{aboveZero, belowZero};
 
-// To the nearest, by quotient and remainder; a tie goes up.
+// To the nearest, by quotient and remainder; a tie goes up. Nothing is added to the product, so any will do.
 pub fn nearest(
     product: u64, // any unit
     divisor: u64, // any unit
@@ -85,7 +85,7 @@ pub fn below_zero(
     above_zero(difference(0, z))
 }
 
-// To the nearest, halves away from zero: the size is rounded and its sign put back.
+// To the nearest, a tie away from zero: the size is rounded and its sign put back.
 pub fn rounded(
     product: i64, // any unit
     divisor: u64, // any unit
