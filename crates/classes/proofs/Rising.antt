@@ -15,13 +15,13 @@ use Rattle.paper.specs.Units.{Duration}
 use Rattle.paper.specs.Lists.{every}
 use Rattle.paper.specs.Rows.{Kind, government, corporate, inflation, floating, ClassRow, kindLetter, kindIn, sameKind}
 use Rattle.paper.specs.Valuation.{lower}
-use Rattle.paper.specs.Refusals.{isDuration, mayPrecede, classRules}
+use Rattle.paper.specs.Refusals.{isDuration, mayPrecede, rulesOf, classKind}
 use Rattle.paper.specs.Tables.{hold}
 use Rattle.paper.proofs.Lists.{both, tests, every-step}
 use Rattle.paper.proofs.Order.{same-true, same-refl}
 use Rattle.paper.proofs.Fields.{kind-back}
 use Rattle.paper.proofs.Rules.{class-facts}
-use Rattle.fields.specs.Values.{kindNumber}
+use Rattle.tables.specs.Numbers.{kindNumber}
 use Rattle.classes.specs.Seen.{borderNumber, noneSeen, rowFits, afterRow, seenOf}
 use Rattle.classes.specs.declared.Seen.{Seen}
 
@@ -37,11 +37,11 @@ pub data Rising : List ClassRow → Type 0 where
       → Rising (c ∷ above)
 
 -- What the rules of a row say of it
-pub formed : (above : List ClassRow) (c : ClassRow) → T (hold (classRules above c)) → Formed c
+pub formed : (above : List ClassRow) (c : ClassRow) → T (hold (rulesOf classKind above c)) → Formed c
 formed above c h = record { class = class-facts above c h .low; border = search tests }
 
 -- A row that the rules admit may be put in front
-pub admitted : (above : List ClassRow) (c : ClassRow) → T (hold (classRules above c)) → Rising above → Rising (c ∷ above)
+pub admitted : (above : List ClassRow) (c : ClassRow) → T (hold (rulesOf classKind above c)) → Rising above → Rising (c ∷ above)
 admitted above c h r =
     let may : every (λ a. mayPrecede a c) above ≡ true = search tests in
     cons (formed above c h) may r

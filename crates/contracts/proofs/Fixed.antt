@@ -11,11 +11,6 @@ module _ {K : Type 0} {A R S : K → Type 0} (post : (κs : K) → A κs → R �
   abbrev pub Fixes : Type 0
   Fixes = (κs : K) (a : A κs) (x y : R κs) (s u : S κs) → post κs a x s → post κs a y u → x ≡ y
 
-  -- It fixes the result where something stands behind the arguments
-  abbrev pub FixesWhere : {B : Type 0} → ((κs : K) → A κs → B → Type 0) → Type 0
-  FixesWhere {B} stands =
-      (κs : K) (a : A κs) (x y : R κs) (s u : S κs) → post κs a x s → post κs a y u → (b : B) → stands κs a b → x ≡ y
-
 -- The law: what equals one thing is equal
 pub one : {A : Type 0} {x y d : A} → x ≡ d → y ≡ d → x ≡ y
 one p q = p ∙ sym q

@@ -1,14 +1,11 @@
 -- Every public function of every crate: two answers that its contract allows are equal. The functions that are lent what they
--- write fix that too. What is not here stands in docs/CONTRACTS.md.
+-- write fix that too.
 use Prim.Native.Nat.{ℕ}
-use lib.ListN.{take}
 use denote.Ref.{now}
 use Rattle.offsetting.specs.Books.{bookOf}
 use Rattle.paper.specs.Units.{Text}
-use Rattle.fields.specs.Places.{Place}
-use Rattle.securities.specs.Tables.{Bordered}
-use Rattle.trades.specs.Tables.{Stands}
-use Rattle.contracts.proofs.Fixed.{FixesSeen, Fixes, FixesWhere, one, both}
+use Rattle.lines.specs.Written.{Place}
+use Rattle.contracts.proofs.Fixed.{FixesSeen, Fixes, one, both}
 use Rattle.whole.proofs.nearest.Reads as whole-nearest
 use Rattle.whole.proofs.least.Reads as whole-least
 use Rattle.whole.proofs.greatest.Reads as whole-greatest
@@ -21,45 +18,35 @@ use Rattle.whole.proofs.sum.Reads as whole-sum
 use Rattle.whole.proofs.difference.Reads as whole-difference
 use Rattle.whole.proofs.product.Reads as whole-product
 use Rattle.days.proofs.day_of.Reads as days-day-of
+use Rattle.days.proofs.follows.Reads as days-follows
 use Rattle.days.proofs.weekday.Reads as days-weekday
 use Rattle.days.proofs.is_open.Reads as days-is-open
 use Rattle.days.proofs.working_after.Reads as days-working-after
 use Rattle.days.proofs.new_years.Reads as days-new-years
+use Rattle.tables.proofs.no_security.Reads as tables-no-security
+use Rattle.tables.proofs.no_classes.Reads as tables-no-classes
+use Rattle.tables.proofs.no_priorities.Reads as tables-no-priorities
+use Rattle.tables.proofs.no_currencies.Reads as tables-no-currencies
+use Rattle.tables.proofs.no_securities.Reads as tables-no-securities
+use Rattle.tables.proofs.no_trades.Reads as tables-no-trades
+use Rattle.tables.proofs.no_tables.Reads as tables-no-tables
 use Rattle.fields.proofs.ended.Reads as fields-ended
 use Rattle.fields.proofs.line_at.Reads as fields-line-at
-use Rattle.fields.proofs.ranged_in.Reads as fields-ranged-in
-use Rattle.fields.proofs.rate_in.Reads as fields-rate-in
-use Rattle.fields.proofs.duration_in.Reads as fields-duration-in
-use Rattle.fields.proofs.date_in.Reads as fields-date-in
-use Rattle.fields.proofs.kind_in.Reads as fields-kind-in
-use Rattle.fields.proofs.trade_in.Reads as fields-trade-in
-use Rattle.fields.proofs.side_in.Reads as fields-side-in
-use Rattle.fields.proofs.code_in.Reads as fields-code-in
-use Rattle.fields.proofs.is_currency.Reads as fields-is-currency
-use Rattle.fields.proofs.compare.Reads as fields-compare
-use Rattle.searches.proofs.class_of.Reads as searches-class-of
-use Rattle.searches.proofs.ranked.Reads as searches-ranked
-use Rattle.searches.proofs.with_currency.Reads as searches-with-currency
-use Rattle.searches.proofs.rises.Reads as searches-rises
-use Rattle.searches.proofs.keys_of.Reads as searches-keys-of
-use Rattle.searches.proofs.find.Reads as searches-find
-use Rattle.classes.proofs.none_seen.Reads as classes-none-seen
-use Rattle.classes.proofs.fits.Reads as classes-fits
-use Rattle.classes.proofs.after.Reads as classes-after
-use Rattle.rows.proofs.goes_on.Reads as rows-goes-on
-use Rattle.rows.proofs.date_row.Reads as rows-date-row
-use Rattle.rows.proofs.class_row.Reads as rows-class-row
-use Rattle.rows.proofs.priority_row.Reads as rows-priority-row
-use Rattle.rows.proofs.security_row.Reads as rows-security-row
-use Rattle.rows.proofs.trade_row.Reads as rows-trade-row
-use Rattle.rows.proofs.date_number.Reads as rows-date-number
-use Rattle.rows.proofs.class_number.Reads as rows-class-number
-use Rattle.rows.proofs.priority_number.Reads as rows-priority-number
-use Rattle.rows.proofs.security_number.Reads as rows-security-number
-use Rattle.rows.proofs.trade_number.Reads as rows-trade-number
-use Rattle.sections.proofs.class_section.Reads as sections-class-section
-use Rattle.sections.proofs.priority_section.Reads as sections-priority-section
-use Rattle.sections.proofs.borders_of.Reads as sections-borders-of
+use Rattle.fields.proofs.number_at.Reads as fields-number-at
+use Rattle.fields.proofs.rate_at.Reads as fields-rate-at
+use Rattle.fields.proofs.duration_at.Reads as fields-duration-at
+use Rattle.fields.proofs.date_at.Reads as fields-date-at
+use Rattle.fields.proofs.day_at.Reads as fields-day-at
+use Rattle.fields.proofs.kind_at.Reads as fields-kind-at
+use Rattle.fields.proofs.letter_at.Reads as fields-letter-at
+use Rattle.fields.proofs.code_at.Reads as fields-code-at
+use Rattle.fields.proofs.currency_at.Reads as fields-currency-at
+use Rattle.fields.proofs.is_blank.Reads as fields-is-blank
+use Rattle.fields.proofs.is_read.Reads as fields-is-read
+use Rattle.fields.proofs.is_rate.Reads as fields-is-rate
+use Rattle.sections.proofs.goes_on.Reads as sections-goes-on
+use Rattle.classes.proofs.class_section.Reads as classes-class-section
+use Rattle.priorities.proofs.priority_section.Reads as priorities-priority-section
 use Rattle.securities.proofs.security_section.Reads as securities-security-section
 use Rattle.trades.proofs.trade_section.Reads as trades-trade-section
 use Rattle.sheet.proofs.read_sheet.Reads as sheet-read-sheet
@@ -117,6 +104,9 @@ whole-product-fixed κs a x y s u p q = one p q
 pub days-day-of-fixed : Fixes days-day-of.Post
 days-day-of-fixed κs a x y s u p q = one p q
 
+pub days-follows-fixed : Fixes days-follows.Post
+days-follows-fixed κs a x y s u p q = one p q
+
 pub days-weekday-fixed : Fixes days-weekday.Post
 days-weekday-fixed κs a x y s u p q = one p q
 
@@ -129,110 +119,83 @@ days-working-after-fixed κs a x y s u p q = one p q
 pub days-new-years-fixed : Fixes days-new-years.Post
 days-new-years-fixed κs a x y s u p q = one p q
 
+pub tables-no-security-fixed : Fixes tables-no-security.Post
+tables-no-security-fixed κs a x y s u p q = one p q
+
+pub tables-no-classes-fixed : Fixes tables-no-classes.Post
+tables-no-classes-fixed κs a x y s u p q = one p q
+
+pub tables-no-priorities-fixed : Fixes tables-no-priorities.Post
+tables-no-priorities-fixed κs a x y s u p q = one p q
+
+pub tables-no-currencies-fixed : Fixes tables-no-currencies.Post
+tables-no-currencies-fixed κs a x y s u p q = one p q
+
+pub tables-no-securities-fixed : Fixes tables-no-securities.Post
+tables-no-securities-fixed κs a x y s u p q = one p q
+
+pub tables-no-trades-fixed : Fixes tables-no-trades.Post
+tables-no-trades-fixed κs a x y s u p q = one p q
+
+pub tables-no-tables-fixed : Fixes tables-no-tables.Post
+tables-no-tables-fixed κs a x y s u p q = one p q
+
 pub fields-ended-fixed : Fixes fields-ended.Post
 fields-ended-fixed κs a x y s u p q = one p q
 
 pub fields-line-at-fixed : Fixes fields-line-at.Post
 fields-line-at-fixed κs a x y s u p q = one p q
 
-pub fields-ranged-in-fixed : Fixes fields-ranged-in.Post
-fields-ranged-in-fixed κs a x y s u p q = one p q
+pub fields-number-at-fixed : Fixes fields-number-at.Post
+fields-number-at-fixed κs a x y s u p q = one p q
 
-pub fields-rate-in-fixed : Fixes fields-rate-in.Post
-fields-rate-in-fixed κs a x y s u p q = one p q
+pub fields-rate-at-fixed : Fixes fields-rate-at.Post
+fields-rate-at-fixed κs a x y s u p q = one p q
 
-pub fields-duration-in-fixed : Fixes fields-duration-in.Post
-fields-duration-in-fixed κs a x y s u p q = one p q
+pub fields-duration-at-fixed : Fixes fields-duration-at.Post
+fields-duration-at-fixed κs a x y s u p q = one p q
 
-pub fields-date-in-fixed : Fixes fields-date-in.Post
-fields-date-in-fixed κs a x y s u p q = one p q
+pub fields-date-at-fixed : Fixes fields-date-at.Post
+fields-date-at-fixed κs a x y s u p q = one p q
 
-pub fields-kind-in-fixed : Fixes fields-kind-in.Post
-fields-kind-in-fixed κs a x y s u p q = one p q
+pub fields-day-at-fixed : Fixes fields-day-at.Post
+fields-day-at-fixed κs a x y s u p q = one p q
 
-pub fields-trade-in-fixed : Fixes fields-trade-in.Post
-fields-trade-in-fixed κs a x y s u p q = one p q
+pub fields-kind-at-fixed : Fixes fields-kind-at.Post
+fields-kind-at-fixed κs a x y s u p q = one p q
 
-pub fields-side-in-fixed : Fixes fields-side-in.Post
-fields-side-in-fixed κs a x y s u p q = one p q
+pub fields-letter-at-fixed : Fixes fields-letter-at.Post
+fields-letter-at-fixed κs a x y s u p q = one p q
 
-pub fields-code-in-fixed : Fixes fields-code-in.Post
-fields-code-in-fixed κs a x y s u p q = one p q
+pub fields-code-at-fixed : Fixes fields-code-at.Post
+fields-code-at-fixed κs a x y s u p q = one p q
 
-pub fields-is-currency-fixed : Fixes fields-is-currency.Post
-fields-is-currency-fixed κs a x y s u p q = one p q
+pub fields-currency-at-fixed : Fixes fields-currency-at.Post
+fields-currency-at-fixed κs a x y s u p q = one p q
 
-pub fields-compare-fixed : Fixes fields-compare.Post
-fields-compare-fixed κs a x y s u p q = one p q
+pub fields-is-blank-fixed : Fixes fields-is-blank.Post
+fields-is-blank-fixed κs a x y s u p q = one p q
 
-pub searches-class-of-fixed : Fixes searches-class-of.Post
-searches-class-of-fixed κs a x y s u p q = one p q
+pub fields-is-read-fixed : Fixes fields-is-read.Post
+fields-is-read-fixed κs a x y s u p q = one p q
 
-pub searches-ranked-fixed : Fixes searches-ranked.Post
-searches-ranked-fixed κs a x y s u p q = one p q
+pub fields-is-rate-fixed : Fixes fields-is-rate.Post
+fields-is-rate-fixed κs a x y s u p q = one p q
 
-pub searches-with-currency-fixed : Fixes searches-with-currency.Post
-searches-with-currency-fixed κs a x y s u p q = one p q
+pub sections-goes-on-fixed : Fixes sections-goes-on.Post
+sections-goes-on-fixed κs a x y s u p q = one p q
 
-pub searches-rises-fixed : Fixes searches-rises.Post
-searches-rises-fixed κs a x y s u p q = one p q
+pub classes-class-section-fixed : Fixes classes-class-section.Post
+classes-class-section-fixed κs a x y s u p q = one p q
 
-pub searches-keys-of-fixed : Fixes searches-keys-of.Post
-searches-keys-of-fixed κs a x y s u p q = one p q
+pub priorities-priority-section-fixed : Fixes priorities-priority-section.Post
+priorities-priority-section-fixed κs a x y s u p q = one p q
 
-pub searches-find-fixed : Fixes searches-find.Post
-searches-find-fixed κs a x y s u p q = one p q
+pub securities-security-section-fixed : Fixes securities-security-section.Post
+securities-security-section-fixed κs a x y s u p q = one p q
 
-pub classes-none-seen-fixed : Fixes classes-none-seen.Post
-classes-none-seen-fixed κs a x y s u p q = one p q
-
-pub classes-fits-fixed : Fixes classes-fits.Post
-classes-fits-fixed κs a x y s u p q = one p q
-
-pub classes-after-fixed : Fixes classes-after.Post
-classes-after-fixed κs a x y s u p q = one p q
-
-pub rows-goes-on-fixed : Fixes rows-goes-on.Post
-rows-goes-on-fixed κs a x y s u p q = one p q
-
-pub rows-date-row-fixed : Fixes rows-date-row.Post
-rows-date-row-fixed κs a x y s u p q = one p q
-
-pub rows-class-row-fixed : Fixes rows-class-row.Post
-rows-class-row-fixed κs a x y s u p q = one p q
-
-pub rows-priority-row-fixed : Fixes rows-priority-row.Post
-rows-priority-row-fixed κs a x y s u p q = one p q
-
-pub rows-security-row-fixed : Fixes rows-security-row.Post
-rows-security-row-fixed κs a x y s u p q = one p q
-
-pub rows-trade-row-fixed : Fixes rows-trade-row.Post
-rows-trade-row-fixed κs a x y s u p q = one p q
-
-pub rows-date-number-fixed : Fixes rows-date-number.Post
-rows-date-number-fixed κs a x y s u p q = one p q
-
-pub rows-class-number-fixed : Fixes rows-class-number.Post
-rows-class-number-fixed κs a x y s u p q = one p q
-
-pub rows-priority-number-fixed : Fixes rows-priority-number.Post
-rows-priority-number-fixed κs a x y s u p q = one p q
-
-pub rows-security-number-fixed : Fixes rows-security-number.Post
-rows-security-number-fixed κs a x y s u p q = one p q
-
-pub rows-trade-number-fixed : Fixes rows-trade-number.Post
-rows-trade-number-fixed κs a x y s u p q = one p q
-
-pub sections-class-section-fixed : Fixes sections-class-section.Post
-sections-class-section-fixed κs a x y s u p q = one p q
-
-pub sections-priority-section-fixed : Fixes sections-priority-section.Post
-sections-priority-section-fixed κs a x y s u p q = one p q
-
-pub sections-borders-of-fixed : Fixes sections-borders-of.Post
-sections-borders-of-fixed κs a x y s u p q = one p q
+pub trades-trade-section-fixed : Fixes trades-trade-section.Post
+trades-trade-section-fixed κs a x y s u p q = one p q
 
 pub sheet-read-sheet-fixed : Fixes sheet-read-sheet.Post
 sheet-read-sheet-fixed κs a x y s u p q = one p q
@@ -287,12 +250,3 @@ kit-brm-margin-fixed κs a x y s u p q = one p q
 
 pub shown-show-fixed : FixesSeen shown-show.Post {B = Place × Text} (λ κs x s. (x, now (s .1 .0)))
 shown-show-fixed κs a x y s u p q = both (p .0) (q .0)
-
--- The sections that are judged by another table: the same, wherever some list of rows stands behind the columns lent
-pub trades-trade-section-fixed : FixesWhere trades-trade-section.Post
-    (λ κs a. Stands (now (a .0)) (take (a .1 .1 .1 .1 .1 .1 .1 .1 .1 .0) (now (a .1 .1 .1 .1 .1 .1 .0))) (take (a .1 .1 .1 .1 .1 .1 .1 .1 .1 .0) (now (a .1 .1 .1 .1 .1 .1 .1 .0))) (take (a .1 .1 .1 .1 .1 .1 .1 .1 .1 .0) (now (a .1 .1 .1 .1 .1 .1 .1 .1 .0))))
-trades-trade-section-fixed κs a x y s u p q ss stands = one (p ss stands) (q ss stands)
-
-pub securities-security-section-fixed : FixesWhere securities-security-section.Post
-    (λ κs a. Bordered (take (a .1 .1 .1 .1 .1 .1 .1 .0) (now (a .1 .1 .1 .1 .0))) (take (a .1 .1 .1 .1 .1 .1 .1 .0) (now (a .1 .1 .1 .1 .1 .0))) (take (a .1 .1 .1 .1 .1 .1 .1 .0) (now (a .1 .1 .1 .1 .1 .1 .0))))
-securities-security-section-fixed κs a x y s u p q cs bordered = one (p .0 cs bordered) (q .0 cs bordered)

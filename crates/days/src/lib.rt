@@ -4,9 +4,9 @@ mod table;
 pub use table::new_years;
 ghost use mathlib.Core.Bool.{true};
 ghost use mathlib.Core.Path.{_≡_};
-ghost use Prim.Native.Nat.{_+_, _*_, _/_, _≤_, _<_};
+ghost use Prim.Native.Nat.{_+_, _-_, _*_, _/_, _≤_, _<_};
 ghost use lib.ListN.{take, getD};
-ghost use Rattle.paper.specs.Lists.{sum};
+ghost use Rattle.paper.specs.Lists.{between, sum};
 ghost use Rattle.paper.specs.Days.{leap, newYears, monthDays, isReal, dayIn, dayOf, weekday, yearOf, springMoon, easter, isClosing, isOpen, workingAfter};
 ghost use Rattle.days.specs.Dated.{dated};
 
@@ -111,6 +111,16 @@ pub fn day_of(years: &[Day; 400], date: Date) -> Dated
     } else {
         Dated::Nothing
     }
+}
+
+// Whether a day is one to so many days after another.
+pub fn follows(first: Day, second: Day, most: Days) -> bool
+    ensures { λ r. ⌜ r ≡ between 1 most (second - first) ⌝ }
+{
+    if second <= first {
+        return false;
+    }
+    second - first <= most
 }
 
 // The weekday: 1 January 2000 was a Saturday.

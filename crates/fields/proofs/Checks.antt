@@ -15,7 +15,8 @@ use Rattle.paper.specs.Lists.{between, every}
 use Rattle.paper.specs.Text.{isDigit, isLetter, inDigits, counted, hasCodeForm, hasCheckDigit, isCode}
 use Rattle.paper.proofs.Lists.{bounds, every-cons}
 use Rattle.paper.proofs.Codes.{fromEnd, from-end-append, digit-letter}
-use Rattle.fields.specs.Values.{codeFrom, byteCounts, byteCountsFrom, countsTable, checkedOr, codeOr}
+use Rattle.tables.specs.Numbers.{bytesFrom}
+use Rattle.fields.specs.Values.{byteCounts, byteCountsFrom, countsTable, checkedOr, codeOr}
 use Rattle.fields.proofs.Parts.{part-step}
 
 -- A byte that a code may have before its last
@@ -49,7 +50,7 @@ taken (suc k) n once twice (b ∷ t) =
 -- That is the number where the bytes are those of a code and all digits, with those of the text before them, end in 0
 taken-is : (k n : ℕ) (p t : Text) → length t ≡ suc k
     → taken k n (counted false (fromEnd p)) (counted true (fromEnd p)) t
-    ≡ cond (every mixed (take k t) && every isDigit (drop k t) && eqb (counted false (fromEnd (p ++ t)) % 10) 0) (codeFrom n t) 18446744073709551615
+    ≡ cond (every mixed (take k t) && every isDigit (drop k t) && eqb (counted false (fromEnd (p ++ t)) % 10) 0) (bytesFrom 10 n t) 18446744073709551615
 taken-is k n p [] e = absurd (omega arith)
 taken-is zero n p (b ∷ []) e = go (isDigit b) refl
   where
@@ -67,12 +68,12 @@ taken-is (suc k) n p (b ∷ c ∷ t) e = go (mixed b) refl (taken-is k (43 * n +
   where
     rest : Text → ℕ
     rest u =
-        cond (every mixed (take k (c ∷ t)) && every isDigit (drop k (c ∷ t)) && eqb (counted false (fromEnd u) % 10) 0) (codeFrom (43 * n + (b - 48)) (c ∷ t)) 18446744073709551615
+        cond (every mixed (take k (c ∷ t)) && every isDigit (drop k (c ∷ t)) && eqb (counted false (fromEnd u) % 10) 0) (bytesFrom 10 (43 * n + (b - 48)) (c ∷ t)) 18446744073709551615
 
     go : (x : Bool) → mixed b ≡ x
         → taken k (43 * n + (b - 48)) (counted false (fromEnd (p ++ (b ∷ [])))) (counted true (fromEnd (p ++ (b ∷ [])))) (c ∷ t) ≡ rest ((p ++ (b ∷ [])) ++ (c ∷ t))
         → taken (suc k) n (counted false (fromEnd p)) (counted true (fromEnd p)) (b ∷ c ∷ t)
-        ≡ cond (every mixed (b ∷ take k (c ∷ t)) && every isDigit (drop k (c ∷ t)) && eqb (counted false (fromEnd (p ++ (b ∷ c ∷ t))) % 10) 0) (codeFrom (43 * n + (b - 48)) (c ∷ t)) 18446744073709551615
+        ≡ cond (every mixed (b ∷ take k (c ∷ t)) && every isDigit (drop k (c ∷ t)) && eqb (counted false (fromEnd (p ++ (b ∷ c ∷ t))) % 10) 0) (bytesFrom 10 (43 * n + (b - 48)) (c ∷ t)) 18446744073709551615
     go true h ih =
         rw (h, every)
         (ap₂ (λ (once twice : ℕ). taken k (43 * n + (b - 48)) once twice (c ∷ t)) (sym (sum-more false p b)) (sym (sum-more true p b))
@@ -92,6 +93,7 @@ table-from (suc k) b zero h = ap byteCounts (sym (add-zero b))
 table-from (suc k) b (suc i) h = table-from k (suc b) i (omega arith) ∙ ap byteCounts (suc-add b i ∙ sym (add-suc b i))
 
 pub table-at : (b : Byte) → between 48 90 b ≡ true → (b - 48 < 43) × (getD countsTable (b - 48) 0 ≡ byteCounts b)
+unfolding countsTable
 table-at b h =
     let d = bounds 48 90 b h in
     let back : 48 + (b - 48) ≡ b = omega arith in

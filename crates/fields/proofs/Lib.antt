@@ -1,7 +1,5 @@
-pub mod Answers
 pub mod Parts
+pub mod Readings
 pub mod Letters
-pub mod Orders
 pub mod Places
-pub mod Numbers
 pub mod Checks

@@ -1,15 +1,14 @@
--- A field as a part of the sheet: its first byte and the rest, and the parts of a part.
-use Prim.Native.Nat.{ℕ, zero, suc, _+_, _-_, _≤_, _<_}
-use native.Mathlib.Nat.{zero-add, suc-add}
+-- A field as a part of the sheet: its first byte and the rest, and its size.
+use Prim.Native.Nat.{ℕ, _+_, _-_, _≤_, _<_}
 use native.Mathlib.Numerals.{add-one}
 use native.Mathlib.Omega.{arith}
 use mathlib.Core.Bool.{true, false}
-use mathlib.Core.List.{List, [], _∷_}
-use mathlib.Core.Path.{_≡_, refl, sym, ap, _∙_}
+use mathlib.Core.List.{[], _∷_}
+use mathlib.Core.Path.{_≡_, sym, ap, _∙_}
 use borrow.Author.Tests.{eq-eqb, ne-eqb}
 use lib.Dec.{eqb}
-use lib.ListN.{length, getD, take, drop}
-use lib.Seq.{slice, slice-cons, slice-empty, length-slice, take-nil, take-take, drop-drop}
+use lib.ListN.{length, getD}
+use lib.Seq.{slice, slice-cons, slice-empty, length-slice}
 use Rattle.paper.specs.Units.{Text}
 
 -- A part that has bytes: its first and the rest, as the code counts
@@ -24,19 +23,6 @@ part-empty s at end e = rw e (slice-empty end s)
 pub part-one : (s : Text) (at end : ℕ) → end ≤ length s → end - at ≡ 1 → slice at end s ≡ getD s at 0 ∷ []
 part-one s at end k e =
     part-step s at end (omega arith) k ∙ ap (λ (t : Text). getD s at 0 ∷ t) (part-empty s (at + 1) end (omega arith))
-
--- So many bytes behind others
-take-drop : (n m : ℕ) (t : Text) → take m (drop n t) ≡ drop n (take (n + m) t)
-take-drop zero m t = rw zero-add
-take-drop (suc n) m [] = rw suc-add (take-nil m)
-take-drop (suc n) m (b ∷ t) = rw suc-add (take-drop n m t)
-
--- The first bytes of a part, and the bytes behind them
-pub part-first : (s : Text) (at end n : ℕ) → at + n ≤ end → take n (slice at end s) ≡ slice at (at + n) s
-part-first s at end n h = take-drop at n (take end s) ∙ ap (drop at) (take-take (at + n) end s h)
-
-pub part-behind : (s : Text) (at end n : ℕ) → drop n (slice at end s) ≡ slice (at + n) end s
-part-behind s at end n = drop-drop n at (take end s)
 
 -- Whether a part has so many bytes
 pub part-sized : (s : Text) (at end n : ℕ) → end ≤ length s → end - at ≡ n → eqb (length (slice at end s)) n ≡ true

@@ -9,13 +9,13 @@ use mathlib.Core.Path.{_≡_, refl, sym, ap, _∙_}
 use borrow.Author.Tests.{eqb-true, eqb-false, eq-eqb, ne-eqb}
 use lib.Dec.{eqb}
 use lib.ListN.{length, getD, take, drop, replicate, length-append, length-drop, List·getD-append, drop-of-length-le}
-use lib.Seq.{slice, take-add, take-append-seam, length-take-le, drop-cons, drop-drop, drop-at, drop-append-add, getD-take}
+use lib.Seq.{slice, length-slice, take-add, take-append-seam, length-take-le, drop-cons, drop-drop, drop-at, drop-append-add, getD-take}
 use Rattle.paper.specs.Units.{Byte, Text, Fields}
 use Rattle.paper.specs.Lists.{every}
-use Rattle.paper.specs.Text.{LF, semicolon, pieces, linesOf, lines, parted, lineOf}
+use Rattle.paper.specs.Text.{LF, semicolon, same, pieces, linesOf, lines, parted, lineOf}
 use Rattle.paper.proofs.Lists.{every-step, every-cons}
 use Rattle.paper.proofs.Lines.{plain, filled, line-first}
-use Rattle.fields.specs.Places.{Place, endedLength, endsFrom, lastPlace, lineAt}
+use Rattle.fields.specs.Places.{Place, endedLength, endsFrom, lastPlace, lineAt, fieldText, Stands}
 
 -- ---- the last LF
 
@@ -326,3 +326,30 @@ line-there s at h =
           let size : k < length (endsOf at fs) = rw (length-ends at fs) p in
           rw (c .ends, kept (endsOf at fs) k size q, kept-start at (endsOf at fs) k size q) (field-in s (c .rest) at fs (c .whole) k p);
     }
+
+-- A field behind the letter stands in the sheet, by the ends of its line, and is the paper's
+module _ {s : Text} {at : Place} (l : LineThere s at) (k : ℕ) (has : k + 1 < length (l .fields)) (few : k < 9) where
+  field-here : FieldAt s (getD (lineAt s at .ends) k 0 + 1) (getD (lineAt s at .ends) (k + 1) 0) (getD (l .fields) (k + 1) [])
+  field-here =
+      let more : suc k < length (l .fields) = omega arith in
+      rw (add-one k) (l .field (suc k) more (omega arith))
+
+  pub field-stands : Stands s (lineAt s at .ends) k
+  field-stands = record { few = few; ordered = field-here .ordered; inside = omega (arith, field-here .inside) }
+
+  pub field-text : fieldText s (lineAt s at .ends) k ≡ getD (l .fields) (k + 1) []
+  field-text = field-here .is
+
+-- It is blank where it starts at its end
+pub blank-field : (s : Text) (ends : List Place) (k : ℕ) → Stands s ends k
+    → eqb (getD ends k 0 + 1) (getD ends (k + 1) 0) ≡ same (fieldText s ends k) []
+blank-field s ends k h = go (eqb (getD ends k 0 + 1) (getD ends (k + 1) 0)) refl (fieldText s ends k) refl
+  where
+    size : length (fieldText s ends k) ≡ getD ends (k + 1) 0 - (getD ends k 0 + 1)
+    size = length-slice (getD ends k 0 + 1) (getD ends (k + 1) 0) s (h .inside)
+
+    go : (b : Bool) → eqb (getD ends k 0 + 1) (getD ends (k + 1) 0) ≡ b → (t : Text) → fieldText s ends k ≡ t → b ≡ same t []
+    go true e [] i = refl
+    go false e (x ∷ t) i = refl
+    go true e (x ∷ t) i = absurd (omega (arith, size, ap length i, eqb-true (getD ends k 0 + 1) (getD ends (k + 1) 0) e))
+    go false e [] i = absurd (eqb-false (getD ends k 0 + 1) (getD ends (k + 1) 0) e (omega (arith, size, ap length i, h .ordered)))

@@ -1,9 +1,10 @@
 -- Lines and fields by their places in the sheet, in bytes from its start.
-use Prim.Native.Nat.{ℕ, zero, suc}
+use Prim.Native.Nat.{ℕ, zero, suc, _+_, _≤_, _<_}
 use mathlib.Core.Bool.{true, false, cond}
 use mathlib.Core.List.{List, [], _∷_, _++_}
 use lib.Dec.{eqb}
 use lib.ListN.{length, getD, take, drop, replicate}
+use lib.Seq.{slice}
 use Rattle.paper.specs.Units.{Text}
 use Rattle.paper.specs.Text.{LF, semicolon}
 use Rattle.fields.specs.declared.Line.{Line}
@@ -37,3 +38,13 @@ abbrev pub lineAt : Text → Place → Line
 lineAt sheet at =
     let ends = endsFrom at (drop at sheet) in
     record { count = length ends; ends = take 10 (ends ++ replicate 10 0); next = suc (lastPlace ends) }
+
+-- The field so many places behind the letter, of a line whose fields end at these places
+abbrev pub fieldText : Text → List Place → ℕ → Text
+fieldText sheet ends k = slice (getD ends k 0 + 1) (getD ends (k + 1) 0) sheet
+
+-- It stands in the sheet
+pub record Stands (sheet : Text) (ends : List Place) (k : ℕ) : Type 0 where
+  pub few : k < 9
+  pub ordered : getD ends k 0 + 1 ≤ getD ends (k + 1) 0
+  pub inside : getD ends (k + 1) 0 ≤ length sheet

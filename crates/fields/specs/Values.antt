@@ -1,44 +1,43 @@
--- What stands in a field, as the code holds it: the paper's reading with the range that the rules ask for.
-use Prim.Native.Nat.{ℕ, zero, suc, _+_, _-_, _*_}
-use mathlib.Core.Bool.{Bool, true, false, cond, _&&_, _||_}
+-- What stands in a field, as the code holds it: the paper's reading with the range that the rules ask for, as a plain number.
+use Prim.Native.Nat.{ℕ, zero, suc, _+_, _*_}
+use mathlib.Core.Bool.{Bool, true, false, cond, not, _&&_, _||_}
 use mathlib.Core.List.{List, [], _∷_, reverse}
 use mathlib.Core.Option.{Option, none, some}
-use lib.IntN.{ℤ}
+use lib.Dec.{eqb}
+use lib.IntN.{ℤ, pos}
 use lib.ListN.{take, drop}
 use Rattle.paper.specs.Units.{Byte, Text, Duration, Rate}
 use Rattle.paper.specs.Lists.{between, every, when, _>>=_}
-use Rattle.paper.specs.Text.{same, before, isDigit, isLetter, decimal, numberIn, signedIn, inDigits, counted, hasCheckDigit, isCode}
-use Rattle.paper.specs.Rows.{Kind, government, corporate, inflation, floating, Trade, repo, cash, Side, seller, purchaser}
+use Rattle.paper.specs.Text.{same, isDigit, isLetter, decimal, numberIn, signedIn, inDigits, counted, hasCheckDigit, isCode, isCurrency}
 use Rattle.paper.specs.Refusals.{isRate}
-use Rattle.fields.specs.declared.Value.{Value}
-use Rattle.fields.specs.declared.Value.the-variants as values
-use Rattle.fields.specs.declared.Signed.{Signed}
-use Rattle.fields.specs.declared.Signed.the-variants as signs
-use Rattle.fields.specs.declared.Order.{Order}
-use Rattle.fields.specs.declared.Order.the-variants as orders
+use Rattle.paper.specs.Signs.{aboveZero}
+use Rattle.tables.specs.Numbers.{codeNumber, currencyNumber, highest}
 
--- A number, or none
-abbrev pub value : Option ℕ → Value
-value none = values.Not
-value (some n) = values.Is n
+-- What was read; the highest number of 64 bits, which no field reads as, where nothing was
+abbrev pub orHighest : Option ℕ → ℕ
+orHighest none = highest
+orHighest (some n) = n
 
--- A signed number, or none
-abbrev pub signed : Option ℤ → Signed
-signed none = signs.Not
-signed (some z) = signs.Is z
+-- The same of a signed number
+abbrev pub signedOr : Option ℤ → ℤ
+signedOr none = pos 9223372036854775807
+signedOr (some z) = z
+
+-- Whether anything was read
+abbrev pub isRead : ℕ → Bool
+isRead n = not (eqb n highest)
+
+-- The same of a signed number
+abbrev pub isSignedRead : ℤ → Bool
+isSignedRead z = not (eqb (aboveZero z) 9223372036854775807)
 
 -- Digits of any kind, leading zeros too, as the number that they mean
 abbrev pub digitsIn : Text → Option ℕ
 digitsIn t = when (every isDigit t) (decimal 0 t)
 
--- Digits as a number; where they are not digits, the highest number of 64 bits, which nineteen digits do not reach
-abbrev pub digitsOr : Option ℕ → ℕ
-digitsOr none = 18446744073709551615
-digitsOr (some n) = n
-
 -- A number from a lowest to a highest
 abbrev pub rangedIn : ℕ → ℕ → Text → Option ℕ
-rangedIn lowest highest t = numberIn t >>= λ n. when (between lowest highest n) n
+rangedIn lowest most t = numberIn t >>= λ n. when (between lowest most n) n
 
 -- A rate within its range: ten-thousandths of a percent
 abbrev pub rateIn : Text → Option Rate
@@ -50,33 +49,9 @@ durationIn true t = rangedIn 1 1_000_000 t
 durationIn false [] = some 0
 durationIn false (b ∷ t) = none
 
--- Kinds, trades and sides by their numbers in the code
-abbrev pub kindNumber : Kind → ℕ
-kindNumber government = 0
-kindNumber corporate = 1
-kindNumber inflation = 2
-kindNumber floating = 3
-
--- A kind of trade by its number
-abbrev pub tradeNumber : Trade → ℕ
-tradeNumber repo = 0
-tradeNumber cash = 1
-
--- A side by its number
-abbrev pub sideNumber : Side → ℕ
-sideNumber seller = 0
-sideNumber purchaser = 1
-
--- A code as one number that orders as its bytes do, read on from a number: each byte from `0` on in base 43, which reaches to
--- `Z`, and the last, a digit, in base 10
-abbrev pub codeFrom : ℕ → Text → ℕ
-codeFrom n [] = n
-codeFrom n (b ∷ []) = 10 * n + (b - 48)
-codeFrom n (b ∷ c ∷ t) = codeFrom (43 * n + (b - 48)) (c ∷ t)
-
--- The whole code
-abbrev pub codeNumber : Text → ℕ
-codeNumber = codeFrom 0
+-- Of two letters, the first as 0 and the second as 1
+abbrev pub letterIn : Byte → Byte → Text → Option ℕ
+letterIn zeroth first t = cond (same (zeroth ∷ []) t) (some 0) (cond (same (first ∷ []) t) (some 1) none)
 
 -- What a byte of a code counts, in two numbers, the second times 256: where the last of its digits counts once, and where it is
 -- doubled. For a byte that no code has, the highest number of 16 bits, which no byte of a code counts
@@ -90,18 +65,18 @@ byteCountsFrom zero b = []
 byteCountsFrom (suc k) b = byteCounts b ∷ byteCountsFrom k (suc b)
 
 -- And from `0` to `Z`
-abbrev pub countsTable : List ℕ
+unfoldable pub countsTable : List ℕ
 countsTable = byteCountsFrom 43 48
 
 -- Twelve bytes, of which eleven are letters or digits, the last is a digit, and checks them, as their number
 abbrev pub checkedOr : Text → ℕ
 checkedOr t =
-    cond (every (λ b. isLetter b || isDigit b) (take 11 t) && every isDigit (drop 11 t) && hasCheckDigit t) (codeNumber t) 18446744073709551615
+    cond (every (λ b. isLetter b || isDigit b) (take 11 t) && every isDigit (drop 11 t) && hasCheckDigit t) (codeNumber t) highest
 
--- A text that is a code as its number; for any other the highest number of 64 bits, which no code has
+-- A text that is a code as its number
 abbrev pub codeOr : Text → ℕ
-codeOr t = cond (isCode t) (codeNumber t) 18446744073709551615
+codeOr t = cond (isCode t) (codeNumber t) highest
 
--- How two texts stand to each other, by bytes
-abbrev pub orderOf : Text → Text → Order
-orderOf s t = elim (same s t) [ true ↦ orders.Same | false ↦ elim (before s t) [ true ↦ orders.Before | false ↦ orders.After ] ]
+-- A text that is a currency as its number
+abbrev pub currencyOr : Text → ℕ
+currencyOr t = cond (isCurrency t) (currencyNumber t) highest

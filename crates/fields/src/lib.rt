@@ -1,41 +1,29 @@
 // Lines, fields, and what stands in a field: the bytes of a lent sheet, by their places.
-// A field is the bytes from a place up to another; a line is looked through once, for where its fields end.
+// A field is the bytes from a place up to another; a line is looked through once, for where its fields end. A field is then read
+// by those ends and by its number: as a number, and as the highest one where it is nothing that it may be.
+use days::Date;
+use days::Dated;
+use days::Day;
+use tables::Code;
+use tables::Money;
 ghost use mathlib.Core.Path.{_≡_};
 ghost use Prim.Native.Nat.{_+_, _-_, _≤_, _<_};
-ghost use mathlib.Core.Bool.{true};
+ghost use mathlib.Core.List.{[], _∷_};
 ghost use mathlib.Core.Option.{none, Option·map};
+ghost use lib.Dec.{eqb};
 ghost use lib.ListN.{length, getD};
 ghost use lib.Seq.{slice};
-ghost use Rattle.paper.specs.Lists.{between, every};
-ghost use Rattle.paper.specs.Text.{LF, isLetter, numberIn, dateIn, isCurrency};
-ghost use Rattle.paper.specs.Rows.{kindIn, tradeIn, sideIn};
-ghost use Rattle.fields.specs.Values.{value, signed, digitsIn, digitsOr, rangedIn, rateIn, durationIn, kindNumber, tradeNumber, sideNumber, countsTable, checkedOr, codeOr, orderOf};
-ghost use Rattle.fields.specs.Places.{endedLength, lineAt};
+ghost use Rattle.paper.specs.Lists.{between};
+ghost use Rattle.paper.specs.Text.{LF, numberIn, dateIn};
+ghost use Rattle.paper.specs.Rows.{kindIn};
+ghost use Rattle.paper.specs.Days.{newYears, dayOf};
+ghost use Rattle.tables.specs.Numbers.{kindNumber, currencyNumber};
+ghost use Rattle.fields.specs.Values.{orHighest, signedOr, isRead, isSignedRead, digitsIn, rangedIn, rateIn, durationIn, letterIn, countsTable, checkedOr, codeOr, currencyOr};
+ghost use Rattle.fields.specs.Places.{endedLength, lineAt, fieldText, Stands};
 
 pub type Place = usize; // in the sheet, in bytes from its start
 
-pub type Date = u64; // eight digits as one number
-
 type Counts = u16; // what digits count, in two numbers, the second times 256: the last of them once, and doubled
-
-// What a field reads as: a number of the field's unit, or nothing that it may be.
-pub enum Value {
-    Is(u64),
-    Not,
-}
-
-// The same of a signed number.
-pub enum Signed {
-    Is(i64),
-    Not,
-}
-
-// How two texts stand to each other, by bytes.
-pub enum Order {
-    Before,
-    Same,
-    After,
-}
 
 // A line: its number of fields, where the first ten end, and where the next line starts.
 pub struct Line {
@@ -97,7 +85,7 @@ pub fn line_at(s: &[u8], at: Place, end: Place) -> Line
 // They are read by sixes, for the reason of `line_at`.
 fn digits_in(s: &[u8], at: Place, end: Place) -> u64
     requires { ⌜ (at ≤ end) × (end ≤ length (now s)) × (end ≤ at + 19) ⌝ }
-    ensures { λ r. ⌜ r ≡ digitsOr (digitsIn (slice at end (now (s .entry)))) ⌝ }
+    ensures { λ r. ⌜ r ≡ orHighest (digitsIn (slice at end (now (s .entry)))) ⌝ }
     ensures { λ r. ⌜ (r ≡ 18446744073709551615 → digitsIn (slice at end (now (s .entry))) ≡ none) ⌝ }
 {
     let mut n: u64 = 0; // any unit
@@ -120,86 +108,80 @@ fn digits_in(s: &[u8], at: Place, end: Place) -> u64
 }
 
 // A number: digits with no leading zero.
-fn number_in(s: &[u8], at: Place, end: Place) -> Value
+fn number_in(s: &[u8], at: Place, end: Place) -> u64
     requires { ⌜ (at ≤ end) × (end ≤ length (now s)) ⌝ }
-    ensures { λ r. ⌜ r ≡ value (numberIn (slice at end (now (s .entry)))) ⌝ }
+    ensures { λ r. ⌜ r ≡ orHighest (numberIn (slice at end (now (s .entry)))) ⌝ }
 {
     let size = end - at; // bytes
     if size == 0 {
-        return Value::Not;
+        return 18446744073709551615;
     }
     if 19 < size {
-        return Value::Not;
+        return 18446744073709551615;
     }
     if 1 < size {
         if s[at] == 48 {
-            return Value::Not;
+            return 18446744073709551615;
         }
     }
-    let n = digits_in(s, at, end); // any unit
-    if n == 18446744073709551615 {
-        return Value::Not;
-    }
-    Value::Is(n)
+    digits_in(s, at, end)
 }
 
-// A number from a lowest to a highest.
-pub fn ranged_in(
+// A number from a lowest to a highest. What stands for no number stays that, in range or not.
+fn ranged_in(
     s: &[u8],
     at: Place,
     end: Place,
     lowest: u64, // the field's unit
     highest: u64, // the field's unit
-) -> Value
+) -> u64
     requires { ⌜ (at ≤ end) × (end ≤ length (now s)) ⌝ }
-    ensures { λ r. ⌜ r ≡ value (rangedIn lowest highest (slice at end (now (s .entry)))) ⌝ }
+    ensures { λ r. ⌜ r ≡ orHighest (rangedIn lowest highest (slice at end (now (s .entry)))) ⌝ }
 {
-    let Value::Is(n) = number_in(s, at, end) else {
-        return Value::Not;
-    };
-    if n < lowest {
-        return Value::Not;
+    let n = number_in(s, at, end); // the field's unit
+    if (lowest <= n) & (n <= highest) {
+        n
+    } else {
+        18446744073709551615
     }
-    if highest < n {
-        return Value::Not;
-    }
-    Value::Is(n)
 }
 
 // A rate: a number in its range that may have `-` before it.
-pub fn rate_in(s: &[u8], at: Place, end: Place) -> Signed
+fn rate_in(s: &[u8], at: Place, end: Place) -> i64
     requires { ⌜ (at ≤ end) × (end ≤ length (now s)) ⌝ }
-    ensures { λ r. ⌜ r ≡ signed (rateIn (slice at end (now (s .entry)))) ⌝ }
+    ensures { λ r. ⌜ r ≡ signedOr (rateIn (slice at end (now (s .entry)))) ⌝ }
 {
     if end == at {
-        return Signed::Not;
+        return 9223372036854775807;
     }
     if s[at] == 45 {
-        let Value::Is(n) = ranged_in(s, at + 1, end, 1, 200_000) else {
-            return Signed::Not;
-        };
-        Signed::Is(whole::negative(n))
+        let n = ranged_in(s, at + 1, end, 1, 200_000); // ten-thousandths of a percent
+        if n == 18446744073709551615 {
+            return 9223372036854775807;
+        }
+        whole::negative(n)
     } else {
-        let Value::Is(n) = ranged_in(s, at, end, 0, 200_000) else {
-            return Signed::Not;
-        };
-        Signed::Is(whole::positive(n))
+        let n = ranged_in(s, at, end, 0, 200_000); // ten-thousandths of a percent
+        if n == 18446744073709551615 {
+            return 9223372036854775807;
+        }
+        whole::positive(n)
     }
 }
 
 // A border or duration, ten-thousandths of a year: a number for a kind that has one, blank for a kind that has none.
-pub fn duration_in(s: &[u8], at: Place, end: Place, has: bool) -> Value
+fn duration_in(s: &[u8], at: Place, end: Place, has: bool) -> u64
     requires { ⌜ (at ≤ end) × (end ≤ length (now s)) ⌝ }
-    ensures { λ r. ⌜ r ≡ value (durationIn has (slice at end (now (s .entry)))) ⌝ }
+    ensures { λ r. ⌜ r ≡ orHighest (durationIn has (slice at end (now (s .entry)))) ⌝ }
 {
     if has {
         return ranged_in(s, at, end, 1, 1_000_000);
     }
-    if end == at { Value::Is(0) } else { Value::Not }
+    if end == at { 0 } else { 18446744073709551615 }
 }
 
 // A date's eight digits; 0, which is no date, for anything else.
-pub fn date_in(s: &[u8], at: Place, end: Place) -> Date
+fn date_in(s: &[u8], at: Place, end: Place) -> Date
     requires { ⌜ (at ≤ end) × (end ≤ length (now s)) ⌝ }
     ensures { λ r. ⌜ r ≡ dateIn (slice at end (now (s .entry))) ⌝ }
 {
@@ -214,59 +196,51 @@ pub fn date_in(s: &[u8], at: Place, end: Place) -> Date
 }
 
 // A kind's number by its letter: 0 government, 1 corporate, 2 inflation linked, 3 floating.
-pub fn kind_in(s: &[u8], at: Place, end: Place) -> Value
+fn kind_in(s: &[u8], at: Place, end: Place) -> u64
     requires { ⌜ (at ≤ end) × (end ≤ length (now s)) ⌝ }
-    ensures { λ r. ⌜ r ≡ value (Option·map kindNumber (kindIn (slice at end (now (s .entry))))) ⌝ }
+    ensures { λ r. ⌜ r ≡ orHighest (Option·map kindNumber (kindIn (slice at end (now (s .entry))))) ⌝ }
 {
     if end - at != 1 {
-        return Value::Not;
+        return 18446744073709551615;
     }
     let b = s[at]; // a byte
     if b == 71 {
-        return Value::Is(0);
+        return 0;
     }
     if b == 67 {
-        return Value::Is(1);
+        return 1;
     }
     if b == 73 {
-        return Value::Is(2);
+        return 2;
     }
     if b == 70 {
-        return Value::Is(3);
+        return 3;
     }
-    Value::Not
+    18446744073709551615
 }
 
-// A trade's number by its letter: 0 repo, 1 cash.
-pub fn trade_in(s: &[u8], at: Place, end: Place) -> Value
+// One of two letters by its number: 0 the first, 1 the second.
+fn letter_in(
+    s: &[u8],
+    at: Place,
+    end: Place,
+    zero: u8, // a byte
+    one: u8, // a byte
+) -> u64
     requires { ⌜ (at ≤ end) × (end ≤ length (now s)) ⌝ }
-    ensures { λ r. ⌜ r ≡ value (Option·map tradeNumber (tradeIn (slice at end (now (s .entry))))) ⌝ }
+    ensures { λ r. ⌜ r ≡ orHighest (letterIn zero one (slice at end (now (s .entry)))) ⌝ }
 {
     if end - at != 1 {
-        return Value::Not;
+        return 18446744073709551615;
     }
     let b = s[at]; // a byte
-    if b == 82 || b == 67 {
-        let n = if b == 82 { 0 } else { 1 }; // by its number
-        return Value::Is(n);
+    if b == zero {
+        return 0;
     }
-    Value::Not
-}
-
-// A side's number by its letter: 0 seller, 1 purchaser.
-pub fn side_in(s: &[u8], at: Place, end: Place) -> Value
-    requires { ⌜ (at ≤ end) × (end ≤ length (now s)) ⌝ }
-    ensures { λ r. ⌜ r ≡ value (Option·map sideNumber (sideIn (slice at end (now (s .entry))))) ⌝ }
-{
-    if end - at != 1 {
-        return Value::Not;
+    if b == one {
+        return 1;
     }
-    let b = s[at]; // a byte
-    if b == 83 || b == 80 {
-        let n = if b == 83 { 0 } else { 1 }; // by its number
-        return Value::Is(n);
-    }
-    Value::Not
+    18446744073709551615
 }
 
 // Whether a byte is from a lowest to a highest.
@@ -277,23 +251,7 @@ fn is_within(
 ) -> bool
     ensures { λ r. ⌜ r ≡ between lowest highest b ⌝ }
 {
-    lowest <= b && b <= highest
-}
-
-// Whether all bytes are letters.
-fn all_letters(s: &[u8], at: Place, end: Place) -> bool
-    requires { ⌜ (at ≤ end) × (end ≤ length (now s)) ⌝ }
-    ensures { λ r. ⌜ r ≡ every isLetter (slice at end (now (s .entry))) ⌝ }
-{
-    let mut i: Place = at;
-    while i < end {
-        if is_within(s[i], 65, 90) {
-            i += 1;
-        } else {
-            return false;
-        }
-    }
-    true
+    (lowest <= b) & (b <= highest)
 }
 
 // What a byte of a code counts (02, b), from `0` to `Z`; 0xffff for a byte that no code has.
@@ -388,52 +346,196 @@ fn checked_number(
 }
 
 // A field that is a code as its number, the highest number for any other.
-pub fn code_in(s: &[u8], at: Place, end: Place) -> u64
+fn code_in(s: &[u8], at: Place, end: Place) -> Code
     requires { ⌜ (at ≤ end) × (end ≤ length (now s)) ⌝ }
     ensures { λ r. ⌜ r ≡ codeOr (slice at end (now (s .entry))) ⌝ }
 {
     if end - at != 12 {
         return 18446744073709551615;
     }
-    if !all_letters(s, at, at + 2) {
-        return 18446744073709551615;
+    if is_within(s[at], 65, 90) & is_within(s[at + 1], 65, 90) {
+        let table = COUNTS; // lent, since a constant is written to the stack wherever it is indexed
+        checked_number(s, at, &table)
+    } else {
+        18446744073709551615
     }
-    let table = COUNTS; // lent, since a constant is written to the stack wherever it is indexed
-    checked_number(s, at, &table)
 }
 
-// Whether a field is a currency: three letters.
-pub fn is_currency(s: &[u8], at: Place, end: Place) -> bool
+// Three bytes from `0` to `Z` as a currency's number.
+fn three_number(
+    a: u8, // a byte
+    b: u8, // a byte
+    c: u8, // a byte
+) -> Money
+    requires { ⌜ (48 ≤ a) × (a ≤ 90) × (48 ≤ b) × (b ≤ 90) × (48 ≤ c) × (c ≤ 90) ⌝ }
+    ensures { λ r. ⌜ r ≡ currencyNumber (a ∷ b ∷ c ∷ []) ⌝ }
+{
+    1849 * ((a - 48) as u64) + 43 * ((b - 48) as u64) + ((c - 48) as u64)
+}
+
+// A field that is a currency, three letters, as its number, the highest number for any other.
+fn currency_in(s: &[u8], at: Place, end: Place) -> Money
     requires { ⌜ (at ≤ end) × (end ≤ length (now s)) ⌝ }
-    ensures { λ r. ⌜ r ≡ isCurrency (slice at end (now (s .entry))) ⌝ }
+    ensures { λ r. ⌜ r ≡ currencyOr (slice at end (now (s .entry))) ⌝ }
 {
     if end - at != 3 {
-        return false;
+        return 18446744073709551615;
     }
-    all_letters(s, at, end)
+    let a = s[at]; // a byte
+    let b = s[at + 1]; // a byte
+    let c = s[at + 2]; // a byte
+    if is_within(a, 65, 90) & is_within(b, 65, 90) & is_within(c, 65, 90) {
+        three_number(a, b, c)
+    } else {
+        18446744073709551615
+    }
 }
 
-// How so many bytes at one place stand to those at another.
-pub fn compare(
+// ---- fields by the ends of their line. `k` is how many fields stand before one, with the letter.
+
+// A number from a lowest to a highest.
+pub fn number_at(
     s: &[u8],
-    a: Place,
-    b: Place,
-    size: usize, // bytes
-) -> Order
-    requires { ⌜ (a + size ≤ length (now s)) × (b + size ≤ length (now s)) ⌝ }
-    ensures { λ r. ⌜ r ≡ orderOf (slice a (a + size) (now (s .entry))) (slice b (b + size) (now (s .entry))) ⌝ }
+    ends: &[Place; 10],
+    k: usize, // fields behind the letter
+    lowest: u64, // the field's unit
+    highest: u64, // the field's unit
+) -> u64
+    requires { ⌜ Stands (now s) (now ends) k ⌝ }
+    ensures { λ r. ⌜ r ≡ orHighest (rangedIn lowest highest (fieldText (now (s .entry)) (now (ends .entry)) k)) ⌝ }
 {
-    let mut i: usize = 0; // bytes that are the same
-    while i < size {
-        let x = s[a + i]; // a byte
-        let y = s[b + i]; // a byte
-        if x < y {
-            return Order::Before;
-        }
-        if y < x {
-            return Order::After;
-        }
-        i += 1;
-    }
-    Order::Same
+    ranged_in(s, ends[k] + 1, ends[k + 1], lowest, highest)
+}
+
+// A rate, ten-thousandths of a percent; the highest signed number where it is none.
+pub fn rate_at(
+    s: &[u8],
+    ends: &[Place; 10],
+    k: usize, // fields behind the letter
+) -> i64
+    requires { ⌜ Stands (now s) (now ends) k ⌝ }
+    ensures { λ r. ⌜ r ≡ signedOr (rateIn (fieldText (now (s .entry)) (now (ends .entry)) k)) ⌝ }
+{
+    rate_in(s, ends[k] + 1, ends[k + 1])
+}
+
+// A border or duration, ten-thousandths of a year, for a kind that has one; 0 for a blank one of a kind that has none.
+pub fn duration_at(
+    s: &[u8],
+    ends: &[Place; 10],
+    k: usize, // fields behind the letter
+    has: bool,
+) -> u64
+    requires { ⌜ Stands (now s) (now ends) k ⌝ }
+    ensures { λ r. ⌜ r ≡ orHighest (durationIn has (fieldText (now (s .entry)) (now (ends .entry)) k)) ⌝ }
+{
+    duration_in(s, ends[k] + 1, ends[k + 1], has)
+}
+
+// A date; 0 where it is none.
+pub fn date_at(
+    s: &[u8],
+    ends: &[Place; 10],
+    k: usize, // fields behind the letter
+) -> Date
+    requires { ⌜ Stands (now s) (now ends) k ⌝ }
+    ensures { λ r. ⌜ r ≡ dateIn (fieldText (now (s .entry)) (now (ends .entry)) k) ⌝ }
+{
+    date_in(s, ends[k] + 1, ends[k + 1])
+}
+
+// The day of a date. `years` is what `days::new_years` gives.
+pub fn day_at(
+    s: &[u8],
+    years: &[Day; 400],
+    ends: &[Place; 10],
+    k: usize, // fields behind the letter
+) -> Day
+    requires { ⌜ Stands (now s) (now ends) k ⌝ }
+    requires { ⌜ now years ≡ newYears ⌝ }
+    ensures { λ r. ⌜ r ≡ orHighest (dayOf (dateIn (fieldText (now (s .entry)) (now (ends .entry)) k))) ⌝ }
+{
+    let Dated::Day(day) = days::day_of(years, date_at(s, ends, k)) else {
+        return 18446744073709551615;
+    };
+    day
+}
+
+// A kind by its number.
+pub fn kind_at(
+    s: &[u8],
+    ends: &[Place; 10],
+    k: usize, // fields behind the letter
+) -> u64
+    requires { ⌜ Stands (now s) (now ends) k ⌝ }
+    ensures { λ r. ⌜ r ≡ orHighest (Option·map kindNumber (kindIn (fieldText (now (s .entry)) (now (ends .entry)) k))) ⌝ }
+{
+    kind_in(s, ends[k] + 1, ends[k + 1])
+}
+
+// One of two letters by its number.
+pub fn letter_at(
+    s: &[u8],
+    ends: &[Place; 10],
+    k: usize, // fields behind the letter
+    zero: u8, // a byte
+    one: u8, // a byte
+) -> u64
+    requires { ⌜ Stands (now s) (now ends) k ⌝ }
+    ensures { λ r. ⌜ r ≡ orHighest (letterIn zero one (fieldText (now (s .entry)) (now (ends .entry)) k)) ⌝ }
+{
+    letter_in(s, ends[k] + 1, ends[k + 1], zero, one)
+}
+
+// A code by its number.
+pub fn code_at(
+    s: &[u8],
+    ends: &[Place; 10],
+    k: usize, // fields behind the letter
+) -> Code
+    requires { ⌜ Stands (now s) (now ends) k ⌝ }
+    ensures { λ r. ⌜ r ≡ codeOr (fieldText (now (s .entry)) (now (ends .entry)) k) ⌝ }
+{
+    code_in(s, ends[k] + 1, ends[k + 1])
+}
+
+// A currency by its number.
+pub fn currency_at(
+    s: &[u8],
+    ends: &[Place; 10],
+    k: usize, // fields behind the letter
+) -> Money
+    requires { ⌜ Stands (now s) (now ends) k ⌝ }
+    ensures { λ r. ⌜ r ≡ currencyOr (fieldText (now (s .entry)) (now (ends .entry)) k) ⌝ }
+{
+    currency_in(s, ends[k] + 1, ends[k + 1])
+}
+
+// Whether a field is blank.
+pub fn is_blank(
+    ends: &[Place; 10],
+    k: usize, // fields behind the letter
+) -> bool
+    requires { ⌜ (k < 9) × (getD (now ends) k 0 < 18446744073709551615) ⌝ }
+    ensures { λ r. ⌜ r ≡ eqb (getD (now (ends .entry)) k 0 + 1) (getD (now (ends .entry)) (k + 1) 0) ⌝ }
+{
+    ends[k] + 1 == ends[k + 1]
+}
+
+// Whether a field read as anything that it may be.
+pub fn is_read(
+    n: u64, // the field's unit
+) -> bool
+    ensures { λ r. ⌜ r ≡ isRead n ⌝ }
+{
+    n != 18446744073709551615
+}
+
+// The same of a rate.
+pub fn is_rate(
+    r: i64, // ten-thousandths of a percent
+) -> bool
+    ensures { λ b. ⌜ b ≡ isSignedRead r ⌝ }
+{
+    whole::above_zero(r) != 9223372036854775807
 }

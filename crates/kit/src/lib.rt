@@ -13,10 +13,11 @@ pub extern "C" fn brm_margin(sheet: &[u8], report: &mut [u8]) -> u64
     if 65536 < sheet.len() {
         return 131072;
     }
-    let tables = sheet::read_sheet(sheet);
-    if tables.refusal != 0 {
-        return 65536 * tables.refusal + tables.line;
+    let read = sheet::read_sheet(sheet);
+    if read.refusal != 0 {
+        return 65536 * read.refusal + read.line;
     }
+    let tables = read.tables;
     let figures = margin::figures_of(tables);
-    report::write(report, sheet, tables, figures) as u64
+    report::write(report, tables, figures) as u64
 }

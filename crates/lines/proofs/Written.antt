@@ -3,13 +3,12 @@ use Prim.Native.Nat.{ℕ, _+_, _≤_}
 use native.Mathlib.Nat.{add-assoc}
 use native.Mathlib.Omega.{arith}
 use mathlib.Core.List.{[], _∷_, _++_, append-assoc}
-use mathlib.Core.Path.{_≡_, sym, ap, ap₂, _∙_}
+use mathlib.Core.Path.{_≡_, refl, sym, ap, ap₂, _∙_}
 use lib.ListN.{length, take, drop, length-append, length-drop}
 use lib.Seq.{length-take-le, take-at, drop-at, drop-drop}
 use Rattle.paper.specs.Units.{Text, Fields}
 use Rattle.paper.specs.Text.{semicolon, lineOf}
-use Rattle.fields.specs.Places.{Place}
-use Rattle.lines.specs.Written.{written, Wrote}
+use Rattle.lines.specs.Written.{Place, written, Wrote}
 
 -- A text that fits leaves a buffer as long as it was
 pub written-length : (t : Text) (at : Place) (b : Text) → at + length t ≤ length b → length (written t at b) ≡ length b
@@ -36,21 +35,31 @@ written-on t u at b fits =
     )
     (simp append-assoc)
 
-module _ (t u : Text) (at : Place) (b : Text) (fits : at + length (t ++ u) ≤ length b) {next : Place} {after : Text} (w : Wrote t at b next after) where
-  -- Where two texts fit, the second fits behind the first
-  pub room : next + length u ≤ length after
-  room = omega (arith, length-append t u, ap length (w .1) ∙ written-length t at b (omega (arith, length-append t u)))
+-- A text in two parts
+pub record Parts (whole t u : Text) : Type 0 where
+  pub are : whole ≡ t ++ u
 
-  -- And written there, it makes the two one
-  pub joined : {last : Place} {end : Text} → Wrote u next after last end → Wrote (t ++ u) at b last end
-  joined v = (
-    omega (arith, length-append t u),
-    v .1 ∙ ap₂ (written u) (w .0) (w .1) ∙ written-on t u at b (omega (arith, length-append t u)),
-  )
+pub parts : (t u : Text) → Parts (t ++ u) t u
+parts t u = record { are = refl }
+
+-- ... that fits
+module _ {whole t u : Text} (p : Parts whole t u) (at : Place) (b : Text) (fits : at + length whole ≤ length b) where
+  -- The first part does
+  pub front : at + length t ≤ length b
+  front = omega (arith, ap length (p .are), length-append t u)
+
+  module _ {next : Place} {after : Text} (w : Wrote t at b next after) where
+    -- The second fits behind it
+    pub room : next + length u ≤ length after
+    room = omega (arith, ap length (p .are), length-append t u, ap length (w .1) ∙ written-length t at b front)
+
+    -- And written there, it makes the text whole
+    pub joined : {last : Place} {end : Text} → Wrote u next after last end → Wrote whole at b last end
+    joined v = rw (p .are) (omega (arith, length-append t u), v .1 ∙ ap₂ (written u) (w .0) (w .1) ∙ written-on t u at b front)
 
 -- A line of several fields is the first of them with `;`, then the line of the others
-line-first : (f g : Text) (fs : Fields) → lineOf (f ∷ g ∷ fs) ≡ (f ++ (semicolon ∷ [])) ++ lineOf (g ∷ fs)
-line-first f g fs = simp append-assoc
+line-first : (f g : Text) (fs : Fields) → Parts (lineOf (f ∷ g ∷ fs)) (f ++ (semicolon ∷ [])) (lineOf (g ∷ fs))
+line-first f g fs = record { are = simp append-assoc }
 
 -- Of a line that goes to a place of a buffer, the fields still to be written, and where: they fit, and make the line whole
 pub record Left (line : Text) (at : Place) (b : Text) (fields : Fields) (next : Place) (after : Text) : Type 0 where
@@ -63,18 +72,14 @@ pub all-left : (fields : Fields) (at : Place) (b : Text) → at + length (lineOf
 all-left fields at b h = record { fits = h; whole = λ w. w }
 
 module _ {line : Text} {at : Place} {b f g : Text} {fs : Fields} {next : Place} {after : Text} (l : Left line at b (f ∷ g ∷ fs) next after) where
-  -- The first of those left and the others fit
-  both-fit : next + length ((f ++ (semicolon ∷ [])) ++ lineOf (g ∷ fs)) ≤ length after
-  both-fit = rw (← (line-first f g fs)) (l .fits)
-
-  -- So the first does
+  -- The first fits with its `;`
   pub field-fits : next + length (f ++ (semicolon ∷ [])) ≤ length after
-  field-fits = omega (arith, both-fit, length-append (f ++ (semicolon ∷ [])) (lineOf (g ∷ fs)))
+  field-fits = front (line-first f g fs) next after (l .fits)
 
   -- Once it is written, the others are left
   pub others-left : {last : Place} {end : Text} → Wrote (f ++ (semicolon ∷ [])) next after last end → Left line at b (g ∷ fs) last end
   others-left w =
       record {
-        fits = room (f ++ (semicolon ∷ [])) (lineOf (g ∷ fs)) next after both-fit w;
-        whole = λ v. l .whole (rw (line-first f g fs) (joined (f ++ (semicolon ∷ [])) (lineOf (g ∷ fs)) next after both-fit w v));
+        fits = room (line-first f g fs) next after (l .fits) w;
+        whole = λ v. l .whole (joined (line-first f g fs) next after (l .fits) w v);
       }

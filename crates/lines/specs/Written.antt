@@ -3,10 +3,12 @@ use Prim.Native.Nat.{ℕ, _+_, _/_, _%_}
 use mathlib.Core.List.{[], _∷_, _++_}
 use mathlib.Core.Path.{_≡_}
 use lib.ListN.{length, take, drop}
-use lib.Seq.{slice}
 use Rattle.paper.specs.Units.{Text, Currency, Number, Line, Class, SignedCents, Whole, Cents}
 use Rattle.paper.specs.Text.{ascii, lineOf, digits, signedDigits}
-use Rattle.fields.specs.Places.{Place}
+
+-- A place in the report, in bytes from its start
+abbrev pub Place : Type 0
+Place = ℕ
 
 -- A text at a place of a buffer: what stood there gives way to it, all else stays
 abbrev pub written : Text → Place → Text → Text
@@ -28,9 +30,9 @@ four n = pair (n / 100) ++ pair (n % 100)
 abbrev pub eight : ℕ → Text
 eight n = four (n / 10_000) ++ four (n % 10_000)
 
--- The currency at a place of a sheet: three letters
-abbrev pub currencyAt : Text → Place → Currency
-currencyAt sheet at = slice at (at + 3) sheet
+-- The three letters of a currency, by its number
+abbrev pub moneyText : ℕ → Currency
+moneyText n = (48 + n / 1849) ∷ (48 + n / 43 % 43) ∷ (48 + n % 43) ∷ []
 
 -- M;line;currency;mark-to-market, in cents
 abbrev pub markLine : Line → Currency → SignedCents → Text

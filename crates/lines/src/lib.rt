@@ -1,17 +1,19 @@
 // Lines of the report: numbers as digits, fields and whole lines, written into the lent buffer from a place on.
 // Each function gives the place behind what it wrote.
-use fields::Place;
+use tables::Money;
 ghost use Prim.Native.Nat.{_+_, _≤_, _<_, _^_};
 ghost use mathlib.Core.List.{[], _∷_, _++_};
 ghost use lib.IntN.{natAbs};
 ghost use lib.ListN.{length};
 ghost use Rattle.paper.specs.Text.{semicolon, digits, signedDigits};
-ghost use Rattle.lines.specs.Written.{Wrote, pair, four, eight, currencyAt, markLine, positionLine, totalLine, refusalLine};
+ghost use Rattle.lines.specs.Written.{Wrote, pair, four, eight, moneyText, markLine, positionLine, totalLine, refusalLine};
+
+pub type Place = usize; // in the report, bytes
 
 // One byte.
 fn put_byte(
     report: &mut [u8],
-    at: Place, // in the report
+    at: Place,
     b: u8, // a byte
 ) -> Place
     requires { ⌜ at < length (now report) ⌝ }
@@ -24,7 +26,7 @@ fn put_byte(
 // Two bytes.
 fn put_two(
     report: &mut [u8],
-    at: Place, // in the report
+    at: Place,
     a: u8, // a byte
     b: u8, // a byte
 ) -> Place
@@ -35,35 +37,22 @@ fn put_two(
     put_byte(report, second, b)
 }
 
-// The digit of a number below ten.
-fn put_digit(
-    report: &mut [u8],
-    at: Place, // in the report
-    n: u64, // any unit
-) -> Place
-    requires { ⌜ (n < 10) × (at < length (now report)) ⌝ }
-    ensures { λ r. ⌜ Wrote ((48 + n) ∷ []) at (now (report .entry)) r (now (report .exit)) ⌝ }
-{
-    put_byte(report, at, (48 + n) as u8)
-}
-
 // The two digits of a number below a hundred.
 fn put_pair(
     report: &mut [u8],
-    at: Place, // in the report
+    at: Place,
     n: u64, // any unit
 ) -> Place
     requires { ⌜ (n < 100) × (at + 2 ≤ length (now report)) ⌝ }
     ensures { λ r. ⌜ Wrote (pair n) at (now (report .entry)) r (now (report .exit)) ⌝ }
 {
-    let ones = put_digit(report, at, n / 10);
-    put_digit(report, ones, n % 10)
+    put_two(report, at, (48 + n / 10) as u8, (48 + n % 10) as u8)
 }
 
 // The four digits of a number below ten thousand.
 fn put_four(
     report: &mut [u8],
-    at: Place, // in the report
+    at: Place,
     n: u64, // any unit
 ) -> Place
     requires { ⌜ (n < 10_000) × (at + 4 ≤ length (now report)) ⌝ }
@@ -76,14 +65,14 @@ fn put_four(
 // A number below a hundred, without a 0 before it.
 fn put_first(
     report: &mut [u8],
-    at: Place, // in the report
+    at: Place,
     n: u64, // any unit
 ) -> Place
     requires { ⌜ (n < 100) × (at + length (digits n) ≤ length (now report)) ⌝ }
     ensures { λ r. ⌜ Wrote (digits n) at (now (report .entry)) r (now (report .exit)) ⌝ }
 {
     if n < 10 {
-        return put_digit(report, at, n);
+        return put_byte(report, at, (48 + n) as u8);
     }
     put_pair(report, at, n)
 }
@@ -91,7 +80,7 @@ fn put_first(
 // A number below ten thousand, without a 0 before it.
 fn put_small(
     report: &mut [u8],
-    at: Place, // in the report
+    at: Place,
     n: u64, // any unit
 ) -> Place
     requires { ⌜ (n < 10_000) × (at + length (digits n) ≤ length (now report)) ⌝ }
@@ -107,7 +96,7 @@ fn put_small(
 // A number below a hundred million, without a 0 before it.
 fn put_middle(
     report: &mut [u8],
-    at: Place, // in the report
+    at: Place,
     n: u64, // any unit
 ) -> Place
     requires { ⌜ (n < 100_000_000) × (at + length (digits n) ≤ length (now report)) ⌝ }
@@ -123,7 +112,7 @@ fn put_middle(
 // The eight digits of a number below a hundred million.
 fn put_eight(
     report: &mut [u8],
-    at: Place, // in the report
+    at: Place,
     n: u64, // any unit
 ) -> Place
     requires { ⌜ (n < 100_000_000) × (at + 8 ≤ length (now report)) ⌝ }
@@ -133,10 +122,26 @@ fn put_eight(
     put_four(report, last, n % 10000)
 }
 
-// A number: the digits of its hundred millions, then eight more. Eight at a time, as calls and divisions of 64 bits are dear.
+// A number below 10 ^ 16, without a 0 before it.
+fn put_long(
+    report: &mut [u8],
+    at: Place,
+    n: u64, // any unit
+) -> Place
+    requires { ⌜ (n < 10_000_000_000_000_000) × (at + length (digits n) ≤ length (now report)) ⌝ }
+    ensures { λ r. ⌜ Wrote (digits n) at (now (report .entry)) r (now (report .exit)) ⌝ }
+{
+    if n < 100000000 {
+        return put_middle(report, at, n);
+    }
+    let last = put_middle(report, at, n / 100000000);
+    put_eight(report, last, n % 100000000)
+}
+
+// Any number. Eight digits at a time, as calls and divisions of 64 bits are dear.
 fn put_number(
     report: &mut [u8],
-    at: Place, // in the report
+    at: Place,
     n: u64, // any unit
 ) -> Place
     requires { ⌜ at + length (digits n) ≤ length (now report) ⌝ }
@@ -145,14 +150,14 @@ fn put_number(
     if n < 100000000 {
         return put_middle(report, at, n);
     }
-    let last = put_number(report, at, n / 100000000);
+    let last = put_long(report, at, n / 100000000);
     put_eight(report, last, n % 100000000)
 }
 
 // A number and the byte that ends its field.
 fn put_field(
     report: &mut [u8],
-    at: Place, // in the report
+    at: Place,
     n: u64, // any unit
     end: u8, // a byte
 ) -> Place
@@ -166,7 +171,7 @@ fn put_field(
 // A signed number and the byte that ends its field.
 fn put_signed_field(
     report: &mut [u8],
-    at: Place, // in the report
+    at: Place,
     z: i64, // any unit
     end: u8, // a byte
 ) -> Place
@@ -182,57 +187,54 @@ fn put_signed_field(
     put_field(report, at, whole::above_zero(z), end)
 }
 
-// The three letters of the currency at a place of the sheet, and `;`.
-fn put_currency(
-    report: &mut [u8],
-    at: Place, // in the report
-    s: &[u8],
-    from: Place, // in the sheet
-) -> Place
-    requires { ⌜ from + 3 ≤ length (now s) ⌝ }
-    requires { ⌜ at + length (currencyAt (now s) from ++ (semicolon ∷ [])) ≤ length (now report) ⌝ }
-    ensures { λ r. ⌜ Wrote (currencyAt (now (s .entry)) from ++ (semicolon ∷ [])) at (now (report .entry)) r (now (report .exit)) ⌝ }
+// The three letters of a currency, and `;`.
+fn put_currency(report: &mut [u8], at: Place, money: Money) -> Place
+    requires { ⌜ (money < 79_507) × (at + 4 ≤ length (now report)) ⌝ }
+    ensures { λ r. ⌜ Wrote (moneyText money ++ (semicolon ∷ [])) at (now (report .entry)) r (now (report .exit)) ⌝ }
 {
-    let third = put_two(report, at, s[from], s[from + 1]);
-    put_two(report, third, s[from + 2], 59)
+    let third = put_two(
+        report,
+        at,
+        (48 + money / 1849) as u8,
+        (48 + money / 43 % 43) as u8,
+    );
+    put_two(report, third, (48 + money % 43) as u8, 59)
 }
 
 // The mark-to-market of the trade on a line of the sheet.
 pub fn mark_line(
     report: &mut [u8],
-    at: Place, // in the report
-    s: &[u8],
-    currency: Place, // in the sheet
+    at: Place,
+    money: Money,
     line: u64, // of the sheet, from 1
     mark: i64, // cents
 ) -> Place
-    requires { ⌜ (natAbs mark < 2 ^ 63) × (currency + 3 ≤ length (now s)) ⌝ }
-    requires { ⌜ at + length (markLine line (currencyAt (now s) currency) mark) ≤ length (now report) ⌝ }
-    ensures { λ r. ⌜ Wrote (markLine line (currencyAt (now (s .entry)) currency) mark) at (now (report .entry)) r (now (report .exit)) ⌝ }
+    requires { ⌜ (natAbs mark < 2 ^ 63) × (money < 79_507) ⌝ }
+    requires { ⌜ at + length (markLine line (moneyText money) mark) ≤ length (now report) ⌝ }
+    ensures { λ r. ⌜ Wrote (markLine line (moneyText money) mark) at (now (report .entry)) r (now (report .exit)) ⌝ }
 {
     let first = put_two(report, at, 77, 59);
     let second = put_field(report, first, line, 59);
-    let third = put_currency(report, second, s, currency);
+    let third = put_currency(report, second, money);
     put_signed_field(report, third, mark, 10)
 }
 
 // A class's positions in a currency, and its margin.
 pub fn position_line(
     report: &mut [u8],
-    at: Place, // in the report
-    s: &[u8],
-    currency: Place, // in the sheet
+    at: Place,
+    money: Money,
     class: u64, // from 1
     long: u64, // whole units
     short: u64, // whole units
     margin: u64, // whole units
 ) -> Place
-    requires { ⌜ currency + 3 ≤ length (now s) ⌝ }
-    requires { ⌜ at + length (positionLine (currencyAt (now s) currency) class long short margin) ≤ length (now report) ⌝ }
-    ensures { λ r. ⌜ Wrote (positionLine (currencyAt (now (s .entry)) currency) class long short margin) at (now (report .entry)) r (now (report .exit)) ⌝ }
+    requires { ⌜ money < 79_507 ⌝ }
+    requires { ⌜ at + length (positionLine (moneyText money) class long short margin) ≤ length (now report) ⌝ }
+    ensures { λ r. ⌜ Wrote (positionLine (moneyText money) class long short margin) at (now (report .entry)) r (now (report .exit)) ⌝ }
 {
     let first = put_two(report, at, 75, 59);
-    let second = put_currency(report, first, s, currency);
+    let second = put_currency(report, first, money);
     let third = put_field(report, second, class, 59);
     let fourth = put_field(report, third, long, 59);
     let fifth = put_field(report, fourth, short, 59);
@@ -242,19 +244,18 @@ pub fn position_line(
 // A currency's totals.
 pub fn total_line(
     report: &mut [u8],
-    at: Place, // in the report
-    s: &[u8],
-    currency: Place, // in the sheet
+    at: Place,
+    money: Money,
     mark: i64, // cents
     initial: u64, // whole units
     total: u64, // cents
 ) -> Place
-    requires { ⌜ (natAbs mark < 2 ^ 63) × (currency + 3 ≤ length (now s)) ⌝ }
-    requires { ⌜ at + length (totalLine (currencyAt (now s) currency) mark initial total) ≤ length (now report) ⌝ }
-    ensures { λ r. ⌜ Wrote (totalLine (currencyAt (now (s .entry)) currency) mark initial total) at (now (report .entry)) r (now (report .exit)) ⌝ }
+    requires { ⌜ (natAbs mark < 2 ^ 63) × (money < 79_507) ⌝ }
+    requires { ⌜ at + length (totalLine (moneyText money) mark initial total) ≤ length (now report) ⌝ }
+    ensures { λ r. ⌜ Wrote (totalLine (moneyText money) mark initial total) at (now (report .entry)) r (now (report .exit)) ⌝ }
 {
     let first = put_two(report, at, 90, 59);
-    let second = put_currency(report, first, s, currency);
+    let second = put_currency(report, first, money);
     let third = put_signed_field(report, second, mark, 59);
     let fourth = put_field(report, third, initial, 59);
     put_field(report, fourth, total, 10)
@@ -263,7 +264,7 @@ pub fn total_line(
 // A refusal, as the forecast prints it.
 pub fn refusal_line(
     report: &mut [u8],
-    at: Place, // in the report
+    at: Place,
     number: u64, // of the refusal
     line: u64, // of the sheet, 0 where it has none
 ) -> Place

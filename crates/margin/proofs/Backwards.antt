@@ -5,9 +5,10 @@ use mathlib.Core.List.{List, [], _∷_, _++_, map, append-assoc}
 use mathlib.Core.Path.{_≡_, sym, ap, _∙_, subst}
 use lib.ListN.{length, getD, take, drop, set, replicate, length-map, length-replicate, replicate-append-replicate}
 use lib.Seq.{length-take-le, drop-cons, drop-length, getD-take, set-append-seam}
-use Rattle.paper.proofs.Lists.{Each, nil, cons, each-at, made-at}
-use Rattle.rows.specs.Sections.{padded}
-use Rattle.rows.proofs.Loops.{padded-parts}
+use Rattle.paper.specs.Lists.{Each, nil, cons}
+use Rattle.paper.proofs.Lists.{each-at, made-at}
+use Rattle.tables.specs.Padded.{padded}
+use Rattle.tables.proofs.Padded.{padded-parts}
 
 module _ {A : Type 0} where
   -- The rows from one before, where there is one

@@ -3,11 +3,6 @@ pub mod Forwards
 pub mod Gathered
 pub mod Values
 pub mod Positions
-pub mod Rows
-pub mod Keyed
-pub mod Ranks
-pub mod Nets
 pub mod Trades
-pub mod Summed
-pub mod Ranged
+pub mod Parts
 pub mod Paper

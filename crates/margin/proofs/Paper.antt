@@ -1,210 +1,251 @@
 -- The figures of an accepted sheet, worked out from its tables as the code holds them, are the paper's.
-use Prim.Native.Nat.{ℕ, _+_, _<_}
+use Prim.Native.Nat.{ℕ, _+_, _≤_, _<_}
 use native.Mathlib.Omega.{arith}
-use mathlib.Core.Bool.{Bool, true, false}
-use mathlib.Core.List.{List, [], map, map-id}
+use mathlib.Core.Bool.{Bool, true, false, not, _&&_}
+use mathlib.Core.List.{List, _∷_, map, map-map, map-id}
+use mathlib.Core.Option.{Option, none, some, Option·getD, Option·map}
 use mathlib.Core.Path.{_≡_, refl, sym, ap, ap₂, _∙_}
+use lib.Dec.{eqb}
 use lib.IntN.{pos}
 use lib.ListN.{length, getD, take}
-use Rattle.paper.specs.Units.{Text, Line, SignedCents, Whole}
+use Rattle.paper.specs.Units.{Line, Duration, SignedCents}
+use Rattle.paper.specs.Units as units
 use Rattle.paper.specs.Days.{day}
-use Rattle.paper.specs.Lists.{sum, given}
-use Rattle.paper.specs.Rows.{PriorityRow, SecurityRow, TradeRow, Tables}
+use Rattle.paper.specs.Lists.{firstThat, Each, nil, cons}
+use Rattle.paper.specs.Rounding.{rounded}
+use Rattle.paper.specs.Signs.{aboveZero, belowZero, signedSum}
+use Rattle.paper.specs.Text.{same, isCurrency}
+use Rattle.paper.specs.Rows as paper
+use Rattle.paper.specs.Rows.{Kind, repo, cash, SecurityRow, TradeRow, Tables, sameKind}
 use Rattle.paper.specs.Currencies.{currencies}
-use Rattle.paper.specs.Valuation.{margined, securityOf, valuedIn}
-use Rattle.paper.specs.Refusals.{accepted, tradeRules}
-use Rattle.paper.specs.Offsetting.{Book, Netted, netsIn, opening, offsetAll, total}
+use Rattle.paper.specs.Valuation.{margined, accrualDay, lower, classOf, valuedIn, signedWorthsIn}
+use Rattle.paper.specs.Offsetting.{Book, nettedIn, netsIn, summed}
 use Rattle.paper.specs.Report.{marginOf, markIn}
 use Rattle.paper.specs.Tables.{Admitted}
-use Rattle.paper.proofs.Lists.{tests, Each, each-map}
-use Rattle.paper.proofs.Rules.{each-holds}
-use Rattle.paper.proofs.Currencies.{few-currencies}
-use Rattle.paper.proofs.Totals.{TradeIn, trade-in, TableFacts, table-facts}
-use Rattle.fields.specs.Places.{Place, lineAt}
-use Rattle.rows.specs.Held.{heldClass, heldPriority}
-use Rattle.rows.specs.Sections.{nextAfter, heldFrom, padded}
-use Rattle.rows.proofs.Loops.{EachFrom}
-use Rattle.sections.specs.Tables.{noClass, noPriority}
-use Rattle.securities.specs.Tables as securities
-use Rattle.securities.specs.Tables.{noSecurity}
-use Rattle.securities.specs.declared.Security.{Security}
-use Rattle.trades.specs.Tables as trades
-use Rattle.trades.specs.Tables.{noTrade}
-use Rattle.trades.specs.declared.Trade.{Trade}
-use Rattle.sheet.specs.Whole.{heldSheet}
-use Rattle.sheet.specs.declared.Sheet.{Sheet}
-use Rattle.offsetting.specs.Books.{rowOf}
+use Rattle.paper.proofs.Lists.{never, each-map, each-made, each-found}
+use Rattle.paper.proofs.Rules.{ClassFacts}
+use Rattle.paper.proofs.Bounds.{interest-days, rate-most}
+use Rattle.paper.proofs.Currencies.{few-currencies, each-currency}
+use Rattle.paper.proofs.Totals.{TableFacts, table-facts}
+use Rattle.tables.specs.Padded.{padded}
+use Rattle.tables.specs.Numbers.{tradeNumber, codeNumber, currencyNumber}
+use Rattle.tables.specs.Held.{noClass, noPriority, noSecurity, noTrade, heldClass, heldPriority, heldSecurity, codesOf, heldTables}
+use Rattle.tables.specs.declared.Security.{Security}
+use Rattle.tables.specs.declared.Trade.{Trade}
+use Rattle.tables.proofs.Padded.{table-front}
+use Rattle.tables.proofs.Numbers.{code-number-same, currency-number-same}
+use Rattle.tables.proofs.Places.{Stands, stands-low, stands-each, each-standing, Rises, rises-same, currencies-rise, currency-stands, codes-rise}
+use Rattle.valuation.specs.Valued.{Ranged, Quoted}
 use Rattle.valuation.specs.declared.Valued.{Valued}
-use Rattle.margin.specs.Sums.{valueIn, sumsOf}
-use Rattle.margin.specs.Figures.{columnsOf, nettedFrom, marginIn, remainingFigures, currencyOf, classRows, priorityRows, noCurrency, currencyAt, fromRank, figuresOf, TablesRanged}
+use Rattle.offsetting.specs.Books.{rowOf}
+use Rattle.margin.specs.Sums.{securityIn, valueIn, sumsOf}
+use Rattle.margin.specs.Openings.{fromRank, Net, netAt, positionsOf, placeIn}
+use Rattle.margin.specs.Figures.{marginIn, classRows, priorityRows, noCurrency, currencyAt, figuresOf, TablesRanged}
 use Rattle.margin.specs.Held.{markOf, heldCurrency, heldFigures}
+use Rattle.margin.specs.declared.Sums.{Sums}
 use Rattle.margin.specs.declared.Currency.{Currency}
-use Rattle.sheet.proofs.Found.{Told}
-use Rattle.margin.proofs.Rows.{all-from, both-from, map-from, rows-front, row-at, held-made, held-each}
-use Rattle.margin.proofs.Ranks.{currencies-rise, money-count}
-use Rattle.margin.proofs.Nets.{rank-made}
-use Rattle.margin.proofs.Trades.{noRow, SecuritiesHeld, Known, trade-known, value-held}
-use Rattle.margin.proofs.Summed.{total-held, nets-held}
-use Rattle.margin.proofs.Ranged.{class-most, trade-placed}
+use Rattle.margin.proofs.Forwards.{ranks-made}
+use Rattle.margin.proofs.Gathered.{gathered-at}
+use Rattle.margin.proofs.Trades.{Known, trades-known, rowsOf, tradeIn, security-held, value-held, sums-held}
+use Rattle.margin.proofs.Parts.{side-summed}
 
--- The tables as the code holds them
-abbrev pub sheetOf : Text → Tables → Sheet
-sheetOf sheet t = heldSheet sheet (accepted t)
+-- The class of a security is at most 40
+class-most : (cs : List paper.ClassRow) → Each ClassFacts cs → (kind : Kind) (duration : Option Duration) → Option·getD (classOf cs kind duration) 0 ≤ 40
+class-most cs facts kind duration = go (firstThat fits cs) refl
+  where
+    fits : paper.ClassRow → Bool
+    fits c = sameKind (c .kind) kind && not (lower (c .border) duration)
 
--- Where the O section and the S section start
-abbrev prioritiesFrom : Text → Tables → Place
-prioritiesFrom sheet t = nextAfter sheet (lineAt sheet 6 .next) (length (t .classes))
+    go : (o : Option paper.ClassRow) → firstThat fits cs ≡ o → Option·getD (Option·map (λ c. c .class) o) 0 ≤ 40
+    go none e = omega arith
+    go (some c) e = each-found fits cs facts c e .high
 
-abbrev pub securitiesFrom : Text → Tables → Place
-securitiesFrom sheet t = nextAfter sheet (prioritiesFrom sheet t) (length (t .priorities))
+-- A trade whose number is not that of cash is a repo
+repo-number : (x : paper.Trade) → eqb (tradeNumber x) 1 ≡ false → x ≡ repo
+repo-number repo e = refl
+repo-number cash e = never (sym e)
 
--- The places of the codes of the securities
-abbrev pub codesOf : Text → Tables → List Place
-codesOf sheet t = take (sheetOf sheet t .securities .count) (sheetOf sheet t .securities .codes)
-
--- The trades
-abbrev tradesOf : Text → Tables → List Trade
-tradesOf sheet t = take (sheetOf sheet t .trades .count) (sheetOf sheet t .trades .rows)
-
--- An S row and a T row of the line at a place
-abbrev pub securityAt : Text → Tables → Place → SecurityRow → Security
-securityAt sheet t = securities.heldFound sheet (t .classes) (currencies (t .securities))
-
-abbrev pub tradeAt : Text → Tables → Place → TradeRow → Trade
-tradeAt sheet t = trades.heldFound sheet (day (t .date)) (codesOf sheet t)
+-- What is made of each entry, where it is the same by what is true of it
+made-same : {A B : Type 0} {P : A → Type 0} (f g : A → B) → ((a : A) → P a → f a ≡ g a) → {xs : List A} → Each P xs → map f xs ≡ map g xs
+made-same f g same nil = refl
+made-same {B = B} f g same (cons {a} p ps) = ap₂ (λ (b : B) (l : List B). b ∷ l) (same a p) (made-same f g same ps)
 
 -- The line of the first trade
 abbrev pub tradesLine : Tables → Line
 tradesLine t = 3 + length (t .classes) + length (t .priorities) + length (t .securities)
 
--- What is known of a T row of the line at a place
-abbrev pub KnownIn : Text → Tables → Place → TradeRow → Type 0
-KnownIn sheet t = Known sheet (day (t .date)) (t .securities) (codesOf sheet t)
+-- The sums of the trades
+abbrev sumsIn : Tables → Sums
+sumsIn t = sumsOf (rowsOf t) (map (tradeIn t) (t .trades))
 
--- The figures of a currency, from its mark-to-market sum in cents, its remaining positions and its class margins in whole units
-abbrev figuresFrom : SignedCents → Book → List Whole → Currency
-figuresFrom mark b margins =
-    record {
-      long = b .long;
-      short = b .short;
-      margins = padded 40 0 margins;
-      mark = mark;
-      initial = sum margins;
-      total = total (sum margins) mark;
-    }
+-- The net of a security, with its class and the rank of its currency
+abbrev rankedNet : Tables → SecurityRow → Net
+rankedNet t s =
+    let h = heldSecurity (t .classes) (currencies (t .securities)) s in
+    record { rank = h .currency; class = h .class; net = nettedIn (t .classes) (valuedIn t) s .net }
 
-module _ (sheet : Text) (t : Tables) (admitted : Admitted t) (told : Told sheet t) where
+module _ (t : Tables) (admitted : Admitted t) where
   -- What the rules say of the tables
   facts : TableFacts t
   facts = table-facts t admitted
 
+  -- Numbers of codes and of currencies rise
+  rising-codes : Rises 0 (codesOf (t .securities))
+  rising-codes = codes-rise (t .classes) (t .securities) (admitted .3)
+
+  pub letters : Each (λ s. isCurrency (s .currency) ≡ true) (t .securities)
+  letters = each-map (λ s f. f .currency) (facts .securities)
+
+  pub rising-currencies : Rises 0 (map currencyNumber (currencies (t .securities)))
+  rising-currencies = currencies-rise (t .securities) letters
+
+  -- ... and there are at most eight currencies
+  pub currencies-few : length (currencies (t .securities)) ≤ 8
+  currencies-few = few-currencies (t .classes) (t .securities) (admitted .3)
+
   -- The rows of each table
-  classes-held : classRows (sheetOf sheet t .classes) ≡ heldFrom (λ at. heldClass) sheet (lineAt sheet 6 .next) (t .classes)
-  classes-held = rows-front (λ at. heldClass) sheet 40 noClass (lineAt sheet 6 .next) (t .classes) (facts .few-classes)
+  classes-held : classRows (heldTables t .classes) ≡ map heldClass (t .classes)
+  classes-held = table-front 40 noClass heldClass (t .classes) (facts .few-classes)
 
-  priorities-held : priorityRows (sheetOf sheet t .priorities) ≡ heldFrom (λ at. heldPriority) sheet (prioritiesFrom sheet t) (t .priorities)
-  priorities-held = rows-front (λ at. heldPriority) sheet 200 noPriority (prioritiesFrom sheet t) (t .priorities) (facts .few-priorities)
+  priorities-held : priorityRows (heldTables t .priorities) ≡ map heldPriority (t .priorities)
+  priorities-held = table-front 200 noPriority heldPriority (t .priorities) (facts .few-priorities)
 
-  rows-held : take (length (t .securities)) (sheetOf sheet t .securities .rows) ≡ heldFrom (securityAt sheet t) sheet (securitiesFrom sheet t) (t .securities)
-  rows-held = rows-front (securityAt sheet t) sheet 200 noSecurity (securitiesFrom sheet t) (t .securities) (facts .few-securities)
+  securities-held : take (length (t .securities)) (rowsOf t) ≡ map (heldSecurity (t .classes) (currencies (t .securities))) (t .securities)
+  securities-held = table-front 200 noSecurity (heldSecurity (t .classes) (currencies (t .securities))) (t .securities) (facts .few-securities)
 
-  pub securities-held : SecuritiesHeld sheet (t .classes) (t .securities) (codesOf sheet t) (sheetOf sheet t .securities .rows)
-  securities-held =
-      record {
-        line-at = nextAfter sheet (securitiesFrom sheet t);
-        row-at =
-            row-at (securityAt sheet t) sheet 200 noSecurity (securitiesFrom sheet t) (t .securities) noRow (facts .few-securities);
-        few = facts .few-securities;
-        texts = told .securities .texts;
-        rising = told .securities .rising;
-        few-currencies = few-currencies (t .classes) (t .securities) (admitted .3);
-        rising-currencies = currencies-rise (t .securities) (each-map (λ s f. f .currency) (facts .securities));
-      }
+  trades-held : take (length (t .trades)) (heldTables t .trades .rows) ≡ map (tradeIn t) (t .trades)
+  trades-held = table-front 500 noTrade (tradeIn t) (t .trades) (facts .few-trades)
 
-  trades-held : tradesOf sheet t ≡ heldFrom (tradeAt sheet t) sheet (sheetOf sheet t .securities .next) (t .trades)
-  trades-held = rows-front (tradeAt sheet t) sheet 500 noTrade (sheetOf sheet t .securities .next) (t .trades) (facts .few-trades)
+  -- The currency of a security is that of a rank exactly where the rank is its own
+  rank-of : {s : SecurityRow} {i : ℕ} → Stands s (t .securities) i → (k : ℕ) (c : units.Currency) → Stands c (currencies (t .securities)) k
+      → same (s .currency) c ≡ eqb (rankedNet t s .rank) k
+  rank-of {s} at k c own =
+      currency-number-same (s .currency) c (stands-each letters at) (stands-each (each-currency (λ c. isCurrency c ≡ true) (t .securities) letters) own)
+      ∙ rises-same currencyNumber (currency-stands at rising-currencies) own rising-currencies
 
-  -- What is known of each trade
-  pub trades-known : EachFrom (KnownIn sheet t) sheet (sheetOf sheet t .securities .next) (t .trades)
-  trades-known =
-      map-from
-      (λ at r p. trade-known sheet (day (t .date)) (t .securities) (codesOf sheet t) (told .securities .texts) at r (p .0) (p .1 .0) (p .1 .1))
-      (both-from (told .trade-codes) rules)
-    where
-      rules : Each (λ r. TradeIn (day (t .date)) (t .securities) r × (given (securityOf (t .securities) (r .code)) ≡ true)) (t .trades)
-      rules =
-          each-holds (tradeRules (day (t .date)) (t .securities)) _
-          (λ above r h. (trade-in (day (t .date)) (t .securities) above r h, search tests))
-          []
-          (t .trades)
-          (admitted .4)
+  -- The worths of a security, cents
+  worth-held : (k : ℕ) (s : SecurityRow) → Stands s (t .securities) k
+      → getD (sumsIn t .worths) k (pos 0) ≡ signedSum (signedWorthsIn (s .code) (valuedIn t))
+  worth-held k s at =
+      gathered-at 200 (λ h. h .security) (λ h. valueIn (rowsOf t) h .worth) k (omega (arith, stands-low at, facts .few-securities)) (map (tradeIn t) (t .trades))
+      ∙ sums-held t admitted (λ v. v .worth) refl (λ h. eqb (h .security) k) (λ v. same (v .security .code) (s .code))
+      (λ r known line.
+      code-number-same (known .security .code) (s .code) (stands-each (facts .securities) (known .stands) .code) (stands-each (facts .securities) at .code)
+      ∙ rises-same (λ s. codeNumber (s .code)) (known .stands) at rising-codes)
+      (tradesLine t)
+      (trades-known t admitted)
 
-  -- The mark-to-market of a trade, cents
-  mark-held : (at : Place) (r : TradeRow) → KnownIn sheet t at r → valueIn (sheetOf sheet t .securities .rows) (tradeAt sheet t at r) .mark ≡ markOf t r
-  mark-held at r known = go (margined (day (t .date)) r) refl
-    where
-      go : (own : Bool) → margined (day (t .date)) r ≡ own → valueIn (sheetOf sheet t .securities .rows) (tradeAt sheet t at r) .mark ≡ markOf t r
-      go false e = ap (λ (v : Valued). v .mark) (value-held securities-held (day (t .date)) at r known false e 0) ∙ sym (rw (e, markOf))
-      go true e = ap (λ (v : Valued). v .mark) (value-held securities-held (day (t .date)) at r known true e 0) ∙ sym (rw (e, known .found, markOf))
+  -- The mark-to-market sum of a currency, cents
+  total-held : (k : ℕ) (c : units.Currency) → Stands c (currencies (t .securities)) k → getD (sumsIn t .totals) k (pos 0) ≡ markIn c (valuedIn t)
+  total-held k c at =
+      gathered-at 8 (λ h. securityIn (rowsOf t) h .currency) (λ h. valueIn (rowsOf t) h .mark) k (omega (arith, stands-low at, currencies-few)) (map (tradeIn t) (t .trades))
+      ∙ sums-held t admitted (λ v. v .mark) refl (λ h. eqb (securityIn (rowsOf t) h .currency) k) (λ v. same (v .security .currency) c)
+      (λ r known line. rank-of (known .stands) k c at ∙ ap (λ (s : Security). eqb (s .currency) k) (sym (security-held t admitted (known .stands))))
+      (tradesLine t)
+      (trades-known t admitted)
+
+  -- The nets of the securities, whole units
+  nets-held : fromRank (netAt (rowsOf t) (sumsIn t .worths)) (length (t .securities)) 0 ≡ map (rankedNet t) (t .securities)
+  nets-held =
+      ranks-made (netAt (rowsOf t) (sumsIn t .worths)) (rankedNet t) (t .securities)
+      (λ k s at.
+      ap₂ (λ (h : Security) (worth : SignedCents). record { rank = h .currency; class = h .class; net = rounded worth 100 })
+      (security-held t admitted at)
+      (worth-held k s at))
+
+  -- One side of the positions of a currency, whole units
+  side-held : (side : units.SignedWhole → units.Whole) (k : ℕ) (c : units.Currency) → Stands c (currencies (t .securities)) k
+      → fromRank (λ class. getD (positionsOf side (map (rankedNet t) (t .securities))) (placeIn k class) 0) 41 0 ≡ summed side (netsIn t (valuedIn t) c)
+  side-held side k c at =
+      side-summed k (λ s. same (s .currency) c) (nettedIn (t .classes) (valuedIn t)) (rankedNet t) (omega (arith, stands-low at, currencies-few)) side
+      (each-standing (t .securities) (λ i s own. (rank-of own k c at, refl, refl, class-most (t .classes) (facts .classes) (s .kind) (s .duration))))
 
   -- The O rows are the paper's
-  priorities-paper : map rowOf (priorityRows (sheetOf sheet t .priorities)) ≡ t .priorities
-  priorities-paper =
-      ap (map rowOf) priorities-held
-      ∙ held-made (λ at. heldPriority) sheet rowOf (λ o. o) (λ at o p. refl) (all-from sheet (prioritiesFrom sheet t) (facts .priorities))
-      ∙ map-id (t .priorities)
+  priorities-paper : map rowOf (priorityRows (heldTables t .priorities)) ≡ t .priorities
+  priorities-paper = ap (map rowOf) priorities-held ∙ map-map rowOf heldPriority (t .priorities) ∙ map-id (t .priorities)
 
   -- The class margins of positions, whole units
-  margins-held : (b : Book) → map (marginIn b) (classRows (sheetOf sheet t .classes)) ≡ map (marginOf b) (t .classes)
-  margins-held b =
-      ap (map (marginIn b)) classes-held
-      ∙ held-made (λ at. heldClass) sheet (marginIn b) (marginOf b) (λ at c p. refl) (all-from sheet (lineAt sheet 6 .next) (facts .classes))
+  margins-held : (b : Book) → map (marginIn b) (classRows (heldTables t .classes)) ≡ map (marginOf b) (t .classes)
+  margins-held b = ap (map (marginIn b)) classes-held ∙ map-map (marginIn b) heldClass (t .classes)
 
   -- The figures of a currency
-  currency-held : (k : ℕ) → k < length (currencies (t .securities))
-      → currencyAt (sheetOf sheet t) k ≡ heldCurrency t (getD (currencies (t .securities)) k [])
-  currency-held k low =
-      let s = sheetOf sheet t in
-      let columns = columnsOf (s .securities .rows) in
-      let c = getD (currencies (t .securities)) k [] in
-      let book = opening (netsIn t (valuedIn t) c) in
-      ap₂ (λ (mark : SignedCents) (ns : List Netted). currencyOf (s .classes) (s .priorities) mark (opening ns))
-      (ap (λ (hs : List Trade). getD (sumsOf (s .securities .rows) hs .totals) k (pos 0)) trades-held
-      ∙ total-held securities-held (day (t .date)) trades-known (tradesLine t) k low)
-      (ap (λ (hs : List Trade). nettedFrom k (columns .ranks) (columns .classes) (sumsOf (s .securities .rows) hs .worths) (length (t .securities)) 0) trades-held
-      ∙ nets-held securities-held (day (t .date)) trades-known (tradesLine t) k low)
-      ∙ ap (λ (os : List PriorityRow). remainingFigures (classRows (s .classes)) (markIn c (valuedIn t)) (offsetAll os book)) priorities-paper
-      ∙ ap (figuresFrom (markIn c (valuedIn t)) (offsetAll (t .priorities) book)) (margins-held (offsetAll (t .priorities) book))
+  currency-held : (k : ℕ) (c : units.Currency) → Stands c (currencies (t .securities)) k → currencyAt (heldTables t) k ≡ heldCurrency t c
+  currency-held k c at =
+      rw (trades-held, total-held k c at, nets-held, side-held aboveZero k c at, side-held belowZero k c at, priorities-paper, margins-held)
 
-  -- The figures of an accepted sheet are the paper's
-  pub figures-held : figuresOf (heldSheet sheet (accepted t)) ≡ heldFigures t
+  -- The mark-to-market of a trade, cents
+  mark-held : (r : TradeRow) → Known t r → valueIn (rowsOf t) (tradeIn t r) .mark ≡ markOf t r
+  mark-held r known = go (margined (day (t .date)) r) refl
+    where
+      go : (own : Bool) → margined (day (t .date)) r ≡ own → valueIn (rowsOf t) (tradeIn t r) .mark ≡ markOf t r
+      go false e = ap (λ (v : Valued). v .mark) (value-held t admitted r known false e 0) ∙ sym (rw (e, markOf))
+      go true e = ap (λ (v : Valued). v .mark) (value-held t admitted r known true e 0) ∙ sym (rw (e, known .found, markOf))
+
+  -- The figures of admitted tables are the paper's
+  pub figures-held : figuresOf (heldTables t) ≡ heldFigures t
   figures-held =
-      let s = sheetOf sheet t in
+      let mark : Trade → SignedCents = λ h. valueIn (rowsOf t) h .mark in
       ap₂ (λ (marks : List SignedCents) (each : List Currency). record { marks = padded 500 (pos 0) marks; currencies = padded 8 noCurrency each })
-      (ap (map (λ h. valueIn (s .securities .rows) h .mark)) trades-held
-      ∙ held-made (tradeAt sheet t) sheet (λ h. valueIn (s .securities .rows) h .mark) (markOf t) mark-held trades-known)
-      (ap (λ (many : ℕ). fromRank (currencyAt s) many 0) (money-count sheet (securitiesFrom sheet t) (t .securities) (told .securities .money-texts))
-      ∙ rank-made (currencyAt s) (heldCurrency t) (currencies (t .securities)) [] currency-held (length (currencies (t .securities))) 0 (omega arith))
+      (ap (map mark) trades-held ∙ map-map mark (tradeIn t) (t .trades) ∙ made-same (λ r. mark (tradeIn t r)) (markOf t) mark-held (trades-known t admitted))
+      (ranks-made (currencyAt (heldTables t)) (heldCurrency t) (currencies (t .securities)) currency-held)
 
-  -- ... and its tables are within the ranges that margining asks for
-  pub tables-ranged : TablesRanged (heldSheet sheet (accepted t))
+  -- A trade of admitted tables is within its ranges
+  trade-ranged : (r : TradeRow) → Known t r → margined (day (t .date)) r ≡ true → Ranged (tradeIn t r)
+  trade-ranged r known m =
+      let today = day (t .date) in
+      let own = known .facts .facts in
+      record {
+        nominal = own .nominal-high;
+        amount = own .amount-high;
+        rate = rate-most r own;
+        began = λ e. let is = repo-number (r .trade) e in rw (is, accrualDay) (interest-days today r own is m .0);
+        days = λ e. let is = repo-number (r .trade) e in rw (is, accrualDay) (interest-days today r own is m .1);
+      }
+
+  -- ... and so is its security, on its accrual day
+  security-ranged : (r : TradeRow) (known : Known t r) → margined (day (t .date)) r ≡ true
+      → Quoted (heldSecurity (t .classes) (currencies (t .securities)) (known .security)) (accrualDay (day (t .date)) r)
+  security-ranged r known m =
+      let own = stands-each (facts .securities) (known .stands) in
+      let period = known .facts .period (known .security) (known .found) m in
+      record {
+        price = own .price-high;
+        coupon = own .coupon;
+        payments-low = own .payments-low;
+        payments-high = own .payments-high;
+        period = own .period-high;
+        from = period .0;
+        until = period .1;
+      }
+
+  -- The rank of the currency of a security is one of eight
+  pub rank-low : {s : SecurityRow} {k : ℕ} → Stands s (t .securities) k → rankedNet t s .rank < 8
+  rank-low at = omega (arith, stands-low (currency-stands at rising-currencies), currencies-few)
+
+  -- The tables are within the ranges that margining asks for
+  pub tables-ranged : TablesRanged (heldTables t)
   tables-ranged =
       record {
         few-classes = facts .few-classes;
         few-priorities = facts .few-priorities;
         few-securities = facts .few-securities;
         few-trades = facts .few-trades;
-        few-currencies = told .securities .money-few;
-        classes =
-            rw classes-held
-            (held-each (λ at. heldClass) sheet (λ at c f. record { class = f .high; deposit = f .deposit }) (all-from sheet (lineAt sheet 6 .next) (facts .classes)));
-        priorities =
-            rw priorities-held
-            (held-each (λ at. heldPriority) sheet (λ at o f. f) (all-from sheet (prioritiesFrom sheet t) (facts .priorities)));
+        few-currencies = currencies-few;
+        classes = rw classes-held (each-made heldClass (t .classes) (each-map (λ c f. record { class = f .high; deposit = f .deposit }) (facts .classes)));
+        priorities = rw priorities-held (each-made heldPriority (t .priorities) (facts .priorities));
         securities =
-            rw rows-held
-            (held-each (securityAt sheet t) sheet (λ at s f. class-most (t .classes) (facts .classes) (s .kind) (s .duration)) (all-from sheet (securitiesFrom sheet t) (facts .securities)));
+            rw securities-held
+            (each-made _ (t .securities)
+            (each-standing (t .securities) (λ k s at. record { class = class-most (t .classes) (facts .classes) (s .kind) (s .duration); currency = rank-low at })));
         trades =
             rw trades-held
-            (held-each (tradeAt sheet t) sheet (λ at r known. trade-placed securities-held (day (t .date)) at r known (facts .securities)) trades-known);
+            (each-made (tradeIn t) (t .trades)
+            (each-map
+            (λ r known.
+            record {
+              security = omega (arith, stands-low (known .stands), facts .few-securities);
+              currency = rw (security-held t admitted (known .stands)) (rank-low (known .stands));
+              ranged = λ m. (trade-ranged r known m, rw (security-held t admitted (known .stands)) (security-ranged r known m));
+            })
+            (trades-known t admitted)));
       }

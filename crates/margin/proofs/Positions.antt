@@ -1,105 +1,50 @@
--- Opening positions net by net: what one net more does, and how large they are.
-use Prim.Native.Nat.{ℕ, zero, suc, _-_, _≤_, _<_}
-use native.Mathlib.Nat.{le-trans}
+-- Opening positions: how large they are, and what stands at the places of one currency.
+use Prim.Native.Nat.{ℕ, _+_, _≤_}
+use native.Mathlib.Nat.{le-refl, le-trans, mul-le-mul-right}
 use native.Mathlib.Omega.{arith}
-use mathlib.Core.Bool.{Bool, true, false}
-use mathlib.Core.List.{List, _∷_}
-use mathlib.Core.Path.{_≡_, refl, sym, ap, ap₂, _∙_}
-use borrow.Author.Tests.{eq-eqb, ne-eqb}
-use lib.Dec.{eqb}
+use mathlib.Core.List.{List}
+use mathlib.Core.Path.{refl}
 use lib.IntN.{pos, natAbs}
-use lib.ListN.{length, getD, replicate}
-use Rattle.paper.specs.Units.{Class, SignedCents}
+use lib.ListN.{getD}
+use Rattle.paper.specs.Units.{SignedCents, Whole, SignedWhole}
+use Rattle.paper.specs.Lists.{Each}
 use Rattle.paper.specs.Rounding.{rounded}
-use Rattle.paper.specs.Offsetting.{Netted, summed, opening}
-use Rattle.paper.proofs.Lists.{Each, nil, cons}
-use Rattle.paper.proofs.Sizes.{rounded-at-most}
-use Rattle.paper.proofs.Bounds.{mostNetCents, mostNet}
-use Rattle.paper.proofs.Totals.{SmallNet, BookFacts, opening-most}
+use Rattle.paper.specs.Signs.{aboveZero, belowZero}
+use Rattle.paper.specs.Bounds.{mostNetCents, mostNet, mostPosition, BookFacts}
+use Rattle.paper.proofs.Sizes.{rounded-at-most, above-within, below-within}
+use Rattle.tables.specs.declared.Security.{Security}
 use Rattle.offsetting.specs.Books.{bookOf}
-use Rattle.margin.specs.Figures.{nettedFrom, withNet}
-
--- The opening positions of nets are those of the nets behind the first, with the first
-pub opening-step : (n : Netted) (ns : List Netted) → opening (n ∷ ns) ≡ withNet n (opening ns)
-unfolding summed
-opening-step n ns = refl
+use Rattle.margin.specs.Openings.{fromRank, netAt, placeIn, positionsOf, openingsOf, bookAt}
+use Rattle.margin.proofs.Gathered.{gathered-most}
+use Rattle.margin.proofs.Backwards.{each-or}
+use Rattle.margin.proofs.Forwards.{ranks-many, ranks-each}
 
 -- The net of a worth is as small as a security's: whole units
 pub net-small : (worth : SignedCents) → natAbs worth ≤ mostNetCents → natAbs (rounded worth 100) ≤ mostNet
 net-small worth h = rounded-at-most worth mostNet 100 (omega arith) h
 
-module _ (rank : ℕ) (ranks : List ℕ) (classes : List Class) (worths : List SignedCents) where
-  -- A security of the currency comes before the nets behind it; another leaves them
-  netted-own : (many at : ℕ) → eqb (getD ranks at 0) rank ≡ true
-      → nettedFrom rank ranks classes worths (suc many) at
-      ≡ record { class = getD classes at 0; net = rounded (getD worths at (pos 0)) 100 } ∷ nettedFrom rank ranks classes worths many (suc at)
-  netted-own many at e = rw (e, nettedFrom)
+module _ (ss : List Security) (worths : List SignedCents) (small : (i : ℕ) → natAbs (getD worths i (pos 0)) ≤ mostNetCents)
+    (many from : ℕ) (few : many ≤ 200) where
+  -- Each position of so many securities is within the table of bounds: whole units
+  side-most : (side : SignedWhole → Whole) → ((z : SignedWhole) → side z ≤ natAbs z)
+      → (k : ℕ) → getD (positionsOf side (fromRank (netAt ss worths) many from)) k 0 ≤ mostPosition
+  side-most side within k =
+      le-trans
+      (gathered-most _+_ 0 328 (λ n. placeIn (n .rank) (n .class)) (λ n. side (n .net)) (λ n. n) refl (λ a b. le-refl (a + b)) mostNet
+      (ranks-each (netAt ss worths) (λ i. le-trans (within _) (net-small _ (small i))) many from) k)
+      (rw (ranks-many (netAt ss worths) many from) (mul-le-mul-right mostNet few))
 
-  netted-other : (many at : ℕ) → eqb (getD ranks at 0) rank ≡ false
-      → nettedFrom rank ranks classes worths (suc many) at ≡ nettedFrom rank ranks classes worths many (suc at)
-  netted-other many at e = rw (e, nettedFrom)
+  pub long-most : (k : ℕ) → getD (openingsOf (fromRank (netAt ss worths) many from) .long) k 0 ≤ mostPosition
+  long-most = side-most aboveZero above-within
 
-  -- The nets from a place on
-  abbrev pub netsFrom : ℕ → ℕ → List Netted
-  netsFrom count i = nettedFrom rank ranks classes worths (count - i) i
+  pub short-most : (k : ℕ) → getD (openingsOf (fromRank (netAt ss worths) many from) .short) k 0 ≤ mostPosition
+  short-most = side-most belowZero below-within
 
-  -- At the end there is no net and no position
-  pub opening-none : (count : ℕ) → bookOf (replicate 41 0) (replicate 41 0) ≡ opening (netsFrom count count)
-  unfolding summed
-  opening-none count =
-      let none : 0 ≡ count - count = omega arith in
-      ap (λ (many : ℕ). opening (nettedFrom rank ranks classes worths many count)) none
-
-  -- At the start there are all
-  pub opening-all : (count i : ℕ) → i ≡ 0 → opening (netsFrom count i) ≡ opening (nettedFrom rank ranks classes worths count 0)
-  opening-all count i e =
-      let all : count - i ≡ count = omega arith in
-      ap₂ (λ (many at : ℕ). opening (nettedFrom rank ranks classes worths many at)) all e
-
-  -- One place before, where there is one
-  netted-before : (count i : ℕ) → 0 < i → i ≤ count → netsFrom count (i - 1) ≡ nettedFrom rank ranks classes worths (suc (count - i)) (i - 1)
-  netted-before count i low high =
-      let more : count - (i - 1) ≡ suc (count - i) = omega arith in
-      ap (λ (many : ℕ). nettedFrom rank ranks classes worths many (i - 1)) more
-
-  -- A turn of the loop over securities, from the last to the first: one of the currency adds its net
-  pub turn-own : (count i : ℕ) → 0 < i → i ≤ count → getD ranks (i - 1) 0 ≡ rank
-      → withNet (record { class = getD classes (i - 1) 0; net = rounded (getD worths (i - 1) (pos 0)) 100 }) (opening (netsFrom count i))
-      ≡ opening (netsFrom count (i - 1))
-  turn-own count i low high own =
-      let n : Netted = record { class = getD classes (i - 1) 0; net = rounded (getD worths (i - 1) (pos 0)) 100 } in
-      let behind : i ≡ suc (i - 1) = omega arith in
-      ap (λ (at : ℕ). withNet n (opening (nettedFrom rank ranks classes worths (count - i) at))) behind
-      ∙ sym (opening-step n (nettedFrom rank ranks classes worths (count - i) (suc (i - 1))))
-      ∙ ap opening (sym (netted-own (count - i) (i - 1) (eq-eqb (getD ranks (i - 1) 0) rank own)))
-      ∙ ap opening (sym (netted-before count i low high))
-
-  -- ... and one of another currency leaves the positions
-  pub turn-other : (count i : ℕ) → 0 < i → i ≤ count → (getD ranks (i - 1) 0 ≡ rank → ⊥)
-      → opening (netsFrom count i) ≡ opening (netsFrom count (i - 1))
-  turn-other count i low high other =
-      let behind : i ≡ suc (i - 1) = omega arith in
-      ap (λ (at : ℕ). opening (nettedFrom rank ranks classes worths (count - i) at)) behind
-      ∙ ap opening (sym (netted-other (count - i) (i - 1) (ne-eqb (getD ranks (i - 1) 0) rank other)))
-      ∙ ap opening (sym (netted-before count i low high))
-
-  module _ (small : (i : ℕ) → natAbs (getD worths i (pos 0)) ≤ mostNetCents) where
-    -- The nets are small, and no more than securities
-    netted-facts : (many at : ℕ) → let ns = nettedFrom rank ranks classes worths many at in Each SmallNet ns × (length ns ≤ many)
-    netted-facts zero at = (nil, omega arith)
-    netted-facts (suc many) at = go (eqb (getD ranks at 0) rank) (netted-facts many (suc at))
-      where
-        rest : List Netted
-        rest = nettedFrom rank ranks classes worths many (suc at)
-
-        go : (own : Bool) → Each SmallNet rest × (length rest ≤ many)
-            → let ns : List Netted = elim own [ true ↦ record { class = getD classes at 0; net = rounded (getD worths at (pos 0)) 100 } ∷ rest | false ↦ rest ] in
-            Each SmallNet ns × (length ns ≤ suc many)
-        go true (each, few) = (cons (net-small (getD worths at (pos 0)) (small at)) each, omega arith)
-        go false (each, few) = (each, omega arith)
-
-    -- So their opening positions are within the table of bounds
-    pub netted-book : (many at : ℕ) → many ≤ 200 → BookFacts (opening (nettedFrom rank ranks classes worths many at))
-    netted-book many at h =
-        let facts = netted-facts many at in
-        opening-most (nettedFrom rank ranks classes worths many at) (le-trans (facts .1) h) (facts .0)
+  -- ... and so is each in one currency
+  pub book-most : (rank : ℕ) → let o = openingsOf (fromRank (netAt ss worths) many from) in
+      let b = bookAt (o .long) (o .short) rank in BookFacts (bookOf (b .long) (b .short))
+  book-most rank =
+      record {
+        long = λ n. each-or {P = λ p. p ≤ mostPosition} (ranks-each _ (λ k. long-most (placeIn rank k)) 41 0) n 0 (omega arith);
+        short = λ n. each-or {P = λ p. p ≤ mostPosition} (ranks-each _ (λ k. short-most (placeIn rank k)) 41 0) n 0 (omega arith);
+      }

@@ -1,87 +1,73 @@
 -- A trade as the code holds it: it has a security, its figures are the paper's, and so are sums of them.
-use Prim.Native.Nat.{ℕ, suc, _+_, _≤_, _<_}
+use Prim.Native.Nat.{ℕ, suc, _+_}
 use mathlib.Core.Bool.{Bool, true, false}
 use mathlib.Core.List.{List, [], _∷_, map}
-use mathlib.Core.Option.{none, some}
+use mathlib.Core.Option.{Option, none, some}
 use mathlib.Core.Path.{_≡_, refl, sym, ap, ap₂, _∙_}
+use lib.Dec.{T}
 use lib.IntN.{ℤ, pos, _+ℤ_, _*ℤ_, +ℤ-idl}
-use lib.ListN.{length, getD}
-use Rattle.paper.specs.Units.{Text, Line, Day, Sign, SignedWhole}
-use Rattle.paper.specs.Lists.{given}
+use lib.ListN.{getD}
+use Rattle.paper.specs.Units.{Line, Day, Sign, SignedWhole}
+use Rattle.paper.specs.Days.{day}
+use Rattle.paper.specs.Lists.{given, Each, nil, cons}
+use Rattle.paper.specs.Text.{same}
 use Rattle.paper.specs.Rows as paper
-use Rattle.paper.specs.Rows.{repo, cash, seller, purchaser, government, SecurityRow, TradeRow}
+use Rattle.paper.specs.Rows.{repo, cash, seller, purchaser, SecurityRow, TradeRow, Tables}
 use Rattle.paper.specs.Currencies.{currencies}
 use Rattle.paper.specs.Valuation as paper-values
 use Rattle.paper.specs.Valuation.{margined, accrualDay, accruedOn, revaluated, interestOf, signOf, markToMarket, securityOf, valued, valuedFrom}
-use Rattle.paper.proofs.Lists.{never}
-use Rattle.paper.proofs.Totals.{TradeIn}
-use Rattle.fields.specs.Places.{Place, lineAt}
-use Rattle.fields.specs.Values.{tradeNumber, sideNumber}
-use Rattle.rows.specs.Held.{fieldPlace}
-use Rattle.rows.specs.Sections.{heldFrom}
-use Rattle.rows.proofs.Loops.{EachFrom, none-from, one-from}
-use Rattle.searches.specs.Searches.{textAt, placeIn, Rising}
-use Rattle.searches.proofs.Rules.{Sought, sought, missed, place-sought}
-use Rattle.securities.specs.Tables as securities
-use Rattle.securities.specs.Tables.{noSecurity}
-use Rattle.securities.specs.declared.Security.{Security}
-use Rattle.trades.specs.Tables as trades
-use Rattle.trades.specs.declared.Trade.{Trade}
+use Rattle.paper.specs.Refusals.{rulesOf, periodOf, tradeKind}
+use Rattle.paper.specs.Tables.{hold, Admitted}
+use Rattle.paper.proofs.Lists.{tests, never, each-map}
+use Rattle.paper.proofs.Rules.{each-holds}
+use Rattle.paper.proofs.Totals.{TradeIn, trade-in, table-facts}
+use Rattle.tables.specs.Numbers.{codeNumber, tradeNumber, sideNumber, numberPlace}
+use Rattle.tables.specs.Held.{noSecurity, heldSecurity, heldTrade, codesOf, heldTables}
+use Rattle.tables.specs.declared.Security.{Security}
+use Rattle.tables.specs.declared.Trade.{Trade}
+use Rattle.tables.proofs.Numbers.{code-number-same}
+use Rattle.tables.proofs.Places.{Stands, first-stands, stands-held}
 use Rattle.valuation.specs.Valued.{tradeOf, sideOf, interestOn, valueOf}
 use Rattle.valuation.specs.declared.Valued.{Valued}
-use Rattle.margin.specs.Sums.{securityIn, valueIn}
-use Rattle.margin.proofs.Keyed.{sumOf, sum-kept, sum-left}
-use Rattle.margin.proofs.Ranks.{Rises}
+use Rattle.margin.specs.Sums.{valueIn}
+use Rattle.margin.proofs.Gathered.{sumOf, sum-kept, sum-left}
 
--- What stands where a table of S rows has none
-abbrev pub noRow : SecurityRow
-noRow =
-    record {
-      code = [];
-      currency = [];
-      kind = government;
-      duration = none;
-      price = 0;
-      coupon = 0;
-      payments = 0;
-      previous = 0;
-      next = 0;
-    }
+-- What is known of a T row: its rules hold, and its security stands at the place of the number of its code
+pub record Known (t : Tables) (r : TradeRow) : Type 0 where
+  pub facts : TradeIn (day (t .date)) (t .securities) r
+  pub security : SecurityRow
+  pub found : securityOf (t .securities) (r .code) ≡ some security
+  pub stands : Stands security (t .securities) (numberPlace (codesOf (t .securities)) (codeNumber (r .code)))
 
--- S rows as the code holds them, each of the line at a place: by their places, by their codes, which rise, and by the ranks of
--- their currencies
-pub record SecuritiesHeld (sheet : Text) (cs : List paper.ClassRow) (ss : List SecurityRow) (codes : List Place) (rows : List Security) : Type 0 where
-  pub line-at : ℕ → Place
-  pub row-at : (k : ℕ) → k < length ss → getD rows k noSecurity ≡ securities.heldFound sheet cs (currencies ss) (line-at k) (getD ss k noRow)
-  pub few : length ss ≤ 200
-  pub texts : map (textAt 12 sheet) codes ≡ map (λ s. s .code) ss
-  pub rising : Rising sheet codes
-  pub few-currencies : length (currencies ss) ≤ 8
-  pub rising-currencies : Rises [] (currencies ss)
-
--- ---- its security
-
--- The place of the security of the trade on the line at a place
-abbrev pub placeOf : Text → List Place → Place → ℕ
-placeOf sheet codes at = placeIn sheet codes (fieldPlace sheet at 2)
-
--- What is known of a T row of the line at a place: its rules hold, and its security stands at the place that is found
-pub record Known (sheet : Text) (today : Day) (ss : List SecurityRow) (codes : List Place) (at : Place) (r : TradeRow) : Type 0 where
-  pub facts : TradeIn today ss r
-  pub low : placeOf sheet codes at < length ss
-  pub found : securityOf ss (r .code) ≡ some (getD ss (placeOf sheet codes at) noRow)
-
--- It is known where its code stands in the sheet and one of the S rows has the code
-pub trade-known : (sheet : Text) (today : Day) (ss : List SecurityRow) (codes : List Place)
-    → map (textAt 12 sheet) codes ≡ map (λ s. s .code) ss
-    → (at : Place) (r : TradeRow) → textAt 12 sheet (fieldPlace sheet at 2) ≡ r .code
-    → TradeIn today ss r → given (securityOf ss (r .code)) ≡ true → Known sheet today ss codes at r
-trade-known sheet today ss codes texts at r text facts there =
-    go (place-sought sheet codes (fieldPlace sheet at 2) ss (r .code) texts text)
+-- It is so of each T row of admitted tables
+pub trades-known : (t : Tables) → Admitted t → Each (Known t) (t .trades)
+trades-known t admitted = each-holds (tradeKind today (periodOf ss)) (Known t) known [] (t .trades) (admitted .4)
   where
-    go : Sought ss (r .code) (placeOf sheet codes at) → Known sheet today ss codes at r
-    go (sought row low found at-place) = record { facts = facts; low = low; found = found ∙ ap some (sym (at-place noRow)) }
-    go (missed behind none-found) = never (sym (ap given none-found) ∙ there)
+    today : Day
+    today = day (t .date)
+
+    ss : List SecurityRow
+    ss = t .securities
+
+    known : (above : List TradeRow) (r : TradeRow) → T (hold (rulesOf (tradeKind today (periodOf ss)) above r)) → Known t r
+    known above r h = go (securityOf ss (r .code)) refl (search tests)
+      where
+        facts : TradeIn today ss r
+        facts = trade-in today ss above r h
+
+        go : (o : Option SecurityRow) → securityOf ss (r .code) ≡ o → given (periodOf ss (r .code)) ≡ true → Known t r
+        go none e there = never (rw e at there)
+        go (some s) e there =
+            record {
+              facts = facts;
+              security = s;
+              found = e;
+              stands =
+                  first-stands (λ s. codeNumber (s .code)) (codeNumber (r .code)) (λ s. same (s .code) (r .code))
+                  (each-map (λ s f. code-number-same (s .code) (r .code) (f .code) (facts .facts .code)) (table-facts t admitted .securities))
+                  s
+                  e;
+            }
 
 -- ---- its figures
 
@@ -95,11 +81,10 @@ side-of seller = refl
 side-of purchaser = refl
 
 -- Its interest is the paper's: whole units
-interest-held : (sheet : Text) (today : Day) (codes : List Place) (at : Place) (r : TradeRow)
-    → interestOn (trades.heldFound sheet today codes at r) ≡ interestOf today r
-interest-held sheet today codes at r = go (r .trade) refl
+interest-held : (today : Day) (codes : List ℕ) (r : TradeRow) → interestOn (heldTrade today codes r) ≡ interestOf today r
+interest-held today codes r = go (r .trade) refl
   where
-    go : (x : paper.Trade) → r .trade ≡ x → interestOn (trades.heldFound sheet today codes at r) ≡ interestOf today r
+    go : (x : paper.Trade) → r .trade ≡ x → interestOn (heldTrade today codes r) ≡ interestOf today r
     go cash e = rw (e, interestOf)
     go repo e = rw (e, accrualDay, interestOf)
 
@@ -118,77 +103,84 @@ pub valued-own : (today : Day) (ss : List SecurityRow) (line : Line) (r : TradeR
 unfolding valuedFrom
 valued-own today ss line r rs s e found = rw (e, found, valuedFrom)
 
--- S rows as the code holds them, and a calculation day
-module _ {sheet : Text} {cs : List paper.ClassRow} {ss : List SecurityRow} {codes : List Place} {rows : List Security}
-    (table : SecuritiesHeld sheet cs ss codes rows) (today : Day) where
-  module _ (at : Place) (r : TradeRow) (known : Known sheet today ss codes at r) where
-    -- The security of a trade is that of its place
-    pub security-held : securityIn rows (trades.heldFound sheet today codes at r)
-        ≡ securities.heldFound sheet cs (currencies ss) (table .line-at (placeOf sheet codes at)) (getD ss (placeOf sheet codes at) noRow)
-    security-held = table .row-at (placeOf sheet codes at) (known .low)
+-- The securities as the code holds them, and a trade
+abbrev pub rowsOf : Tables → List Security
+rowsOf t = heldTables t .securities .rows
 
-    -- Its figures are the paper's: cents
-    pub value-held : (own : Bool) → margined today r ≡ own → (line : Line)
-        → valueIn rows (trades.heldFound sheet today codes at r) ≡ figures own (valued today line r (getD ss (placeOf sheet codes at) noRow))
-    value-held own is line =
-        let s = getD ss (placeOf sheet codes at) noRow in
-        let worth = revaluated (r .nominal) (s .price + accruedOn s (accrualDay today r)) in
-        ap (valueOf (trades.heldFound sheet today codes at r)) security-held
-        ∙ ap₂ (λ (sign : Sign) (due : SignedWhole).
-        figures (margined today r) (record { line = line; security = s; signedWorth = pos worth *ℤ sign; mark = markToMarket worth (r .amount) due sign }))
-        (ap₂ signOf (trade-of (r .trade)) (side-of (r .side)))
-        (interest-held sheet today codes at r)
-        ∙ ap (λ (own : Bool). figures own (valued today line r s)) is
+abbrev pub tradeIn : Tables → TradeRow → Trade
+tradeIn t r = heldTrade (day (t .date)) (codesOf (t .securities)) r
+
+module _ (t : Tables) (admitted : Admitted t) where
+  -- A security stands at its place
+  pub security-held : {s : SecurityRow} {k : ℕ} → Stands s (t .securities) k
+      → getD (rowsOf t) k noSecurity ≡ heldSecurity (t .classes) (currencies (t .securities)) s
+  security-held at = stands-held 200 noSecurity (heldSecurity (t .classes) (currencies (t .securities))) (table-facts t admitted .few-securities) at noSecurity
+
+  -- The figures of a trade are the paper's: cents
+  pub value-held : (r : TradeRow) (known : Known t r) (own : Bool) → margined (day (t .date)) r ≡ own → (line : Line)
+      → valueIn (rowsOf t) (tradeIn t r) ≡ figures own (valued (day (t .date)) line r (known .security))
+  value-held r known own is line =
+      let today = day (t .date) in
+      let s = known .security in
+      let worth = revaluated (r .nominal) (s .price + accruedOn s (accrualDay today r)) in
+      ap (valueOf (tradeIn t r)) (security-held (known .stands))
+      ∙ ap₂ (λ (sign : Sign) (due : SignedWhole).
+      figures (margined today r) (record { line = line; security = s; signedWorth = pos worth *ℤ sign; mark = markToMarket worth (r .amount) due sign }))
+      (ap₂ signOf (trade-of (r .trade)) (side-of (r .side)))
+      (interest-held today (codesOf (t .securities)) r)
+      ∙ ap (λ (own : Bool). figures own (valued today line r s)) is
 
   -- A figure of a trade, and a test of the code's that agrees with one of the paper's
   module _ (figure : Valued → ℤ) (unmargined : figure (record { worth = pos 0; mark = pos 0 }) ≡ pos 0) (mine : Trade → Bool) (theirs : paper-values.Valued → Bool)
-      (agree : (at : Place) (r : TradeRow) → Known sheet today ss codes at r → (line : Line)
-      → theirs (valued today line r (getD ss (placeOf sheet codes at) noRow)) ≡ mine (trades.heldFound sheet today codes at r)) where
+      (agree : (r : TradeRow) (known : Known t r) (line : Line) → theirs (valued (day (t .date)) line r (known .security)) ≡ mine (tradeIn t r)) where
     -- The figures of the trades that pass, summed: the code's sum is the paper's, of the figure's unit
-    pub sums-held : (line : Line) {from : Place} {rs : List TradeRow} → EachFrom (Known sheet today ss codes) sheet from rs
-        → sumOf mine (λ h. figure (valueIn rows h)) (heldFrom (trades.heldFound sheet today codes) sheet from rs)
-        ≡ sumOf theirs (λ v. figure (figures true v)) (valuedFrom today ss line rs)
+    pub sums-held : (line : Line) {rs : List TradeRow} → Each (Known t) rs
+        → sumOf mine (λ h. figure (valueIn (rowsOf t) h)) (map (tradeIn t) rs)
+        ≡ sumOf theirs (λ v. figure (figures true v)) (valuedFrom (day (t .date)) (t .securities) line rs)
     unfolding valuedFrom
-    sums-held line none-from = refl
-    sums-held line (one-from {at} {r} {rs} known rest) = go (margined today r) refl (mine h) refl (sums-held (suc line) rest)
+    sums-held line nil = refl
+    sums-held line (cons {a = r} {rest = rs} known rest) = go (margined today r) refl (mine h) refl (sums-held (suc line) rest)
       where
+        today : Day
+        today = day (t .date)
+
         h : Trade
-        h = trades.heldFound sheet today codes at r
+        h = tradeIn t r
 
         hs : List Trade
-        hs = heldFrom (trades.heldFound sheet today codes) sheet (lineAt sheet at .next) rs
+        hs = map (tradeIn t) rs
 
         v : paper-values.Valued
-        v = valued today line r (getD ss (placeOf sheet codes at) noRow)
+        v = valued today line r (known .security)
 
         vs : List paper-values.Valued
-        vs = valuedFrom today ss (suc line) rs
+        vs = valuedFrom today (t .securities) (suc line) rs
 
         amount : Trade → ℤ
-        amount h = figure (valueIn rows h)
+        amount h = figure (valueIn (rowsOf t) h)
 
         paid : paper-values.Valued → ℤ
         paid v = figure (figures true v)
 
-        out : margined today r ≡ false → sumOf theirs paid vs ≡ sumOf theirs paid (valuedFrom today ss line (r ∷ rs))
-        out e = sym (ap (sumOf theirs paid) (valued-out today ss line r rs e))
+        out : margined today r ≡ false → sumOf theirs paid vs ≡ sumOf theirs paid (valuedFrom today (t .securities) line (r ∷ rs))
+        out e = sym (ap (sumOf theirs paid) (valued-out today (t .securities) line r rs e))
 
-        own : margined today r ≡ true → sumOf theirs paid (v ∷ vs) ≡ sumOf theirs paid (valuedFrom today ss line (r ∷ rs))
-        own e = sym (ap (sumOf theirs paid) (valued-own today ss line r rs (v .security) e (known .found)))
+        own : margined today r ≡ true → sumOf theirs paid (v ∷ vs) ≡ sumOf theirs paid (valuedFrom today (t .securities) line (r ∷ rs))
+        own e = sym (ap (sumOf theirs paid) (valued-own today (t .securities) line r rs (known .security) e (known .found)))
 
         go : (is : Bool) → margined today r ≡ is → (picked : Bool) → mine h ≡ picked → sumOf mine amount hs ≡ sumOf theirs paid vs
-            → sumOf mine amount (h ∷ hs) ≡ sumOf theirs paid (valuedFrom today ss line (r ∷ rs))
+            → sumOf mine amount (h ∷ hs) ≡ sumOf theirs paid (valuedFrom today (t .securities) line (r ∷ rs))
         go false e false k more = sum-left mine amount h hs k ∙ more ∙ out e
         go false e true k more =
             sum-kept mine amount h hs k
-            ∙ ap (λ (z : ℤ). z +ℤ sumOf mine amount hs) (ap figure (value-held at r known false e line) ∙ unmargined)
+            ∙ ap (λ (z : ℤ). z +ℤ sumOf mine amount hs) (ap figure (value-held r known false e line) ∙ unmargined)
             ∙ +ℤ-idl (sumOf mine amount hs)
             ∙ more
             ∙ out e
         go true e false k more =
-            sum-left mine amount h hs k ∙ more ∙ sym (sum-left theirs paid v vs (agree at r known line ∙ k)) ∙ own e
+            sum-left mine amount h hs k ∙ more ∙ sym (sum-left theirs paid v vs (agree r known line ∙ k)) ∙ own e
         go true e true k more =
             sum-kept mine amount h hs k
-            ∙ ap₂ _+ℤ_ (ap figure (value-held at r known true e line)) more
-            ∙ sym (sum-kept theirs paid v vs (agree at r known line ∙ k))
+            ∙ ap₂ _+ℤ_ (ap figure (value-held r known true e line)) more
+            ∙ sym (sum-kept theirs paid v vs (agree r known line ∙ k))
             ∙ own e

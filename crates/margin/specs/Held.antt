@@ -12,7 +12,7 @@ use Rattle.paper.specs.Currencies.{currencies}
 use Rattle.paper.specs.Valuation.{margined, securityOf, valued, valuedIn}
 use Rattle.paper.specs.Offsetting.{netsIn, opening, offsetAll, total}
 use Rattle.paper.specs.Report.{marginOf, markIn}
-use Rattle.rows.specs.Sections.{padded}
+use Rattle.tables.specs.Padded.{padded}
 use Rattle.margin.specs.Figures.{noCurrency}
 use Rattle.margin.specs.declared.Currency.{Currency}
 use Rattle.margin.specs.declared.Figures.{Figures}

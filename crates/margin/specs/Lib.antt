@@ -1,3 +1,4 @@
 pub mod Sums
+pub mod Openings
 pub mod Figures
 pub mod Held

@@ -1,27 +1,27 @@
 // From tables to figures: each trade's mark-to-market, and for each currency the remaining positions and margin of each
 // class, the initial margin and the total.
 use offsetting::Whole;
-use rows::ClassRow;
-use sections::Classes;
-use sections::Priorities;
-use securities::Security;
-use sheet::Sheet;
-use trades::Trade;
+use tables::ClassRow;
+use tables::Classes;
+use tables::Priorities;
+use tables::Security;
+use tables::Tables;
+use tables::Trade;
 use valuation::Cents;
 use valuation::SignedCents;
 ghost use mathlib.Core.Path.{_≡_};
-ghost use Prim.Native.Nat.{ℕ, _≤_, _<_};
-ghost use lib.IntN.{pos, natAbs};
-ghost use lib.ListN.{getD, take};
+ghost use Prim.Native.Nat.{ℕ, _+_, _≤_, _<_, _^_};
+ghost use lib.IntN.{pos, natAbs, _+ℤ_};
+ghost use lib.ListN.{length, getD, take, set};
+ghost use Rattle.paper.specs.Lists.{Each};
 ghost use Rattle.paper.specs.Rounding.{rounded as roundedOf};
-ghost use Rattle.paper.specs.Offsetting.{opening as openingOf, total as totalOf};
-ghost use Rattle.paper.proofs.Lists.{Each};
-ghost use Rattle.paper.proofs.Rules.{PriorityFacts};
-ghost use Rattle.paper.proofs.Bounds.{mostNetCents, mostInitial, mostMarkSum};
-ghost use Rattle.paper.proofs.Totals.{BookFacts};
+ghost use Rattle.paper.specs.Signs.{aboveZero, belowZero};
+ghost use Rattle.paper.specs.Offsetting.{total as totalOf};
+ghost use Rattle.paper.specs.Bounds.{PriorityFacts, BookFacts, mostNetCents, mostPosition, mostInitial, mostMarkSum};
 ghost use Rattle.offsetting.specs.Books.{bookOf, rowOf};
 ghost use Rattle.margin.specs.Sums.{Placed, sumsOf};
-ghost use Rattle.margin.specs.Figures.{ClassRanged, TablesRanged, columnsOf, nettedFrom, withNet, heldBook, marginIn, marginsOf, classRows, priorityRows, currencyOf, noCurrency, figuresOf};
+ghost use Rattle.margin.specs.Openings.{Seated, fromRank, netAt, openingsOf, bookAt};
+ghost use Rattle.margin.specs.Figures.{ClassRanged, TablesRanged, marginIn, marginsOf, classRows, priorityRows, currencyOf, noCurrency, figuresOf};
 
 // The sums of the trades.
 pub struct Sums {
@@ -30,10 +30,10 @@ pub struct Sums {
     pub totals: [SignedCents; 8], // mark-to-market of each currency
 }
 
-// What offsetting asks of the securities, by their places.
-pub struct Columns {
-    pub classes: [u64; 200], // 1..40
-    pub ranks: [usize; 200], // currencies
+// Opening positions in all currencies: those of class k in the currency of rank r at place 41 × r + k.
+pub struct Openings {
+    pub long: [Whole; 328],
+    pub short: [Whole; 328],
 }
 
 // Positions of the classes in one currency, at the places of their numbers.
@@ -64,6 +64,19 @@ pub struct Figures {
     pub currencies: [Currency; 8], // rising
 }
 
+// An amount onto the sum at a place.
+fn add_to(
+    sums: &mut [SignedCents],
+    place: usize, // among the sums
+    amount: SignedCents,
+)
+    requires { ⌜ (place < length (now sums)) × (natAbs amount + natAbs (getD (now sums) place (pos 0)) < 2 ^ 63) ⌝ }
+    ensures { λ _. ⌜ now (sums .exit) ≡ set (now (sums .entry)) place (amount +ℤ getD (now (sums .entry)) place (pos 0)) ⌝ }
+{
+    let sum = sums[place]; // cents
+    sums[place] = whole::sum(amount, sum);
+}
+
 // The trades valued and summed, from the last to the first.
 fn sums_of(
     trades: [Trade; 500],
@@ -80,14 +93,14 @@ fn sums_of(
     while 0 < i {
         i -= 1;
         let trade = trades[i];
-        let place = trade.security;
+        let place = trade.security as usize; // among the securities
         let security = securities[place];
-        let rank = security.currency;
         let valued = valuation::value_of(trade, security);
         let mark = valued.mark; // cents
+        let worth = valued.worth; // cents
         marks[i] = mark;
-        worths[place] = whole::sum(valued.worth, worths[place]);
-        totals[rank] = whole::sum(mark, totals[rank]);
+        add_to(&mut worths, place, worth);
+        add_to(&mut totals, security.currency as usize, mark);
     }
     Sums {
         marks: marks,
@@ -96,54 +109,63 @@ fn sums_of(
     }
 }
 
-// The classes and currencies of the rows of a table.
-fn columns_of(rows: [Security; 200]) -> Columns
-    ensures { λ r. ⌜ r ≡ columnsOf rows ⌝ }
-{
-    let mut classes: [u64; 200] = [0; 200]; // 1..40
-    let mut ranks: [usize; 200] = [0; 200]; // currencies
-    let mut i: usize = 0; // rows
-    while i < 200 {
-        let security = rows[i];
-        classes[i] = security.class;
-        ranks[i] = security.currency;
-        i += 1;
-    }
-    Columns {
-        classes: classes,
-        ranks: ranks,
-    }
-}
-
 // A security's worth is rounded once to its net, which is long or short.
-fn add_net(long: &mut [Whole; 41], short: &mut [Whole; 41], class: usize, worth: SignedCents)
-    requires { ⌜ (class ≤ 40) × (natAbs worth ≤ mostNetCents) × BookFacts (bookOf (now long) (now short)) ⌝ }
-    ensures { λ _. ⌜ bookOf (now (long .exit)) (now (short .exit)) ≡ withNet (record { class = class; net = roundedOf worth 100 }) (bookOf (now (long .entry)) (now (short .entry))) ⌝ }
+fn add_net(
+    long: &mut [Whole; 328],
+    short: &mut [Whole; 328],
+    place: usize, // of a class in a currency
+    worth: SignedCents,
+)
+    requires { ⌜ (place < 328) × (natAbs worth ≤ mostNetCents) × (getD (now long) place 0 ≤ mostPosition) × (getD (now short) place 0 ≤ mostPosition) ⌝ }
+    ensures above { λ _. ⌜ now (long .exit) ≡ set (now (long .entry)) place (aboveZero (roundedOf worth 100) + getD (now (long .entry)) place 0) ⌝ }
+    ensures below { λ _. ⌜ now (short .exit) ≡ set (now (short .entry)) place (belowZero (roundedOf worth 100) + getD (now (short .entry)) place 0) ⌝ }
 {
     let net = whole::rounded(worth, 100); // whole units
-    long[class] = long[class] + whole::above_zero(net);
-    short[class] = short[class] + whole::below_zero(net);
+    long[place] = whole::above_zero(net) + long[place];
+    short[place] = whole::below_zero(net) + short[place];
 }
 
-// The opening positions of a currency, from the last of its securities to the first.
-fn opening(
-    rank: usize, // currency
-    classes: &[u64; 200], // of the securities
-    ranks: &[usize; 200], // of their currencies
-    worths: &[SignedCents; 200],
+// The opening positions, from the last security to the first.
+fn openings_of(
+    rows: [Security; 200],
     count: usize, // securities
-) -> Book
-    requires { ⌜ (count ≤ 200) × ((i : ℕ) → i < count → getD (now classes) i 0 ≤ 40) × ((i : ℕ) → natAbs (getD (now worths) i (pos 0)) ≤ mostNetCents) ⌝ }
-    ensures { λ r. ⌜ r ≡ heldBook (openingOf (nettedFrom rank (now (ranks .entry)) (now (classes .entry)) (now (worths .entry)) count 0)) ⌝ }
+    worths: &[SignedCents; 200],
+) -> Openings
+    requires { ⌜ (count ≤ 200) × Each Seated (take count rows) × ((i : ℕ) → natAbs (getD (now worths) i (pos 0)) ≤ mostNetCents) ⌝ }
+    ensures { λ r. ⌜ r ≡ openingsOf (fromRank (netAt rows (now (worths .entry))) count 0) ⌝ }
 {
-    let mut long: [Whole; 41] = [0; 41];
-    let mut short: [Whole; 41] = [0; 41];
+    let mut long: [Whole; 328] = [0; 328];
+    let mut short: [Whole; 328] = [0; 328];
     let mut i = count; // securities
     while 0 < i {
         i -= 1;
-        if ranks[i] == rank {
-            add_net(&mut long, &mut short, classes[i] as usize, worths[i]);
-        }
+        let security = rows[i];
+        let place = 41 * security.currency as usize + security.class as usize; // of a class in a currency
+        add_net(&mut long, &mut short, place, worths[i]);
+    }
+    Openings {
+        long: long,
+        short: short,
+    }
+}
+
+// The opening positions of one currency.
+fn book_of(
+    longs: &[Whole; 328],
+    shorts: &[Whole; 328],
+    rank: usize, // currency
+) -> Book
+    requires { ⌜ rank < 8 ⌝ }
+    ensures { λ r. ⌜ r ≡ bookAt (now (longs .entry)) (now (shorts .entry)) rank ⌝ }
+{
+    let from = 41 * rank; // place of its first class
+    let mut long: [Whole; 41] = [0; 41];
+    let mut short: [Whole; 41] = [0; 41];
+    let mut k: usize = 0; // classes
+    while k < 41 {
+        long[k] = longs[from + k];
+        short[k] = shorts[from + k];
+        k += 1;
     }
     Book {
         long: long,
@@ -225,29 +247,29 @@ fn no_currency() -> Currency
 }
 
 // The figures of an accepted sheet.
-pub fn figures_of(tables: Sheet) -> Figures
+pub fn figures_of(tables: Tables) -> Figures
     requires { ⌜ TablesRanged tables ⌝ }
     ensures { λ r. ⌜ r ≡ figuresOf tables ⌝ }
 {
     let securities = tables.securities;
     let trades = tables.trades;
     let priorities = tables.priorities;
-    let known = tables.classes;
+    let classes = tables.classes;
     let rows = securities.rows;
     let booked = trades.rows;
     let sums = sums_of(booked, trades.count, rows);
     let marks = sums.marks; // cents
     let worths = sums.worths; // cents
     let totals = sums.totals; // cents
-    let columns = columns_of(rows);
-    let classes = columns.classes;
-    let ranks = columns.ranks;
+    let openings = openings_of(rows, securities.count, &worths);
+    let long = openings.long; // whole units
+    let short = openings.short; // whole units
     let many = securities.currencies.count;
     let mut currencies: [Currency; 8] = [no_currency(); 8];
     let mut r: usize = 0; // currencies
     while r < many {
-        let book = opening(r, &classes, &ranks, &worths, securities.count);
-        currencies[r] = currency_of(book, known, priorities, totals[r]);
+        let book = book_of(&long, &short, r);
+        currencies[r] = currency_of(book, classes, priorities, totals[r]);
         r += 1;
     }
     Figures {

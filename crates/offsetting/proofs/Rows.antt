@@ -7,10 +7,9 @@ use mathlib.Core.Path.{_≡_, refl}
 use lib.ListN.{length, getD, take}
 use Rattle.paper.specs.Units.{Class, Factor}
 use Rattle.paper.specs.Offsetting.{Book, position, taken, offset, offsetRow, offsetAll}
-use Rattle.paper.proofs.Bounds.{mostPosition}
+use Rattle.paper.specs.Bounds.{mostPosition, BookFacts}
 use Rattle.paper.proofs.Lists.{set-most}
-use Rattle.paper.proofs.Totals.{BookFacts}
-use Rattle.rows.specs.declared.PriorityRow.{PriorityRow}
+use Rattle.tables.specs.declared.PriorityRow.{PriorityRow}
 use Rattle.offsetting.specs.Books.{rowOf}
 
 -- An offset keeps every position within its bound, whole units

@@ -3,7 +3,7 @@ use mathlib.Core.List.{List}
 use Rattle.paper.specs.Units.{Whole}
 use Rattle.paper.specs.Rows as paper
 use Rattle.paper.specs.Offsetting.{Book}
-use Rattle.rows.specs.declared.PriorityRow.{PriorityRow}
+use Rattle.tables.specs.declared.PriorityRow.{PriorityRow}
 
 -- The positions of all classes in one currency, whole units
 abbrev pub bookOf : List Whole → List Whole → Book

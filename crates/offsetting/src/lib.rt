@@ -1,20 +1,17 @@
 // Offsetting: the long and short positions of the classes in one currency, taken down row by row of the priority list.
 // A class's position stands at the place of its number, 0..40.
-use rows::PriorityRow;
+use tables::Factor;
+use tables::PriorityRow;
 ghost use mathlib.Core.Path.{_≡_};
 ghost use mathlib.Core.List.{map};
 ghost use Prim.Native.Nat.{_≤_};
 ghost use lib.ListN.{take};
 ghost use Rattle.paper.specs.Offsetting.{share as shareOf, offset as offsetBy, offsetRow, offsetAll};
-ghost use Rattle.paper.proofs.Lists.{Each};
-ghost use Rattle.paper.proofs.Rules.{PriorityFacts};
-ghost use Rattle.paper.proofs.Bounds.{mostPosition};
-ghost use Rattle.paper.proofs.Totals.{BookFacts};
+ghost use Rattle.paper.specs.Lists.{Each};
+ghost use Rattle.paper.specs.Bounds.{PriorityFacts, mostPosition, BookFacts};
 ghost use Rattle.offsetting.specs.Books.{bookOf, rowOf};
 
 pub type Whole = u64; // whole units
-
-pub type Factor = u64; // ten-thousandths
 
 // A factor's share of an amount.
 pub fn share(factor: Factor, amount: Whole) -> Whole

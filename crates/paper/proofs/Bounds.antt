@@ -1,29 +1,6 @@
--- The table of bounds: how large each figure of admitted tables can be, each bound shown once. A signed figure is bound
--- in its size, which is what it is without its sign.
---
---     figure                                          at most                      unit
---     yearly coupon × days run                        800,000,000                  hundred-thousandths of a % × days
---     payments a year × days of the period            1,600                        days
---     accrued coupon                                  2,000,000                    hundred-thousandths of a %
---     price with accrued coupon                       22,000,000                   hundred-thousandths of a %
---     nominal × price with accrued coupon             2,200,000,000,000,000        cents × 100,000
---     revaluated amount, also with its sign           22,000,000,000               cents
---     days of repo interest                           734                          days
---     days × amount                                   22,020,000,000,000           days × cents
---     days × amount × rate, in size                   4,404,000,000,000,000,000    whole units × 36,000,000,000
---     repo interest, in size                          122,333,334                  whole units
---     mark-to-market, in size                         64,233,333,400               cents
---     margined trades                                 500                          trades
---     line of a margined trade                        942                          lines
---     amounts of one security summed, in size         11,000,000,000,000           cents
---     net of a security, in size                      110,000,000,000              whole units
---     position of a class, opening and remaining      22,000,000,000,000           whole units
---     factor × position                               220,000,000,000,000,000      whole units × 10,000
---     margin of a class                               22,000,000,000,000           whole units
---     initial margin of a currency                    880,000,000,000,000          whole units
---     mark-to-market sum of a currency, in size       32,116,666,700,000           cents
---     total of a currency                             88,032,116,666,700,000       cents
-use Prim.Native.Nat.{ℕ, _+_, _-_, _*_, _≤_, _<_}
+-- The figures of a trade are within the table of bounds, each bound shown once. A signed figure is bound in its size, which is
+-- what it is without its sign.
+use Prim.Native.Nat.{_+_, _-_, _*_, _≤_, _<_}
 use native.Mathlib.Nat.{le-trans, mul-comm, mul-one, mul-pos, mul-le-mul, mul-le-mul-left, le-mul-of-pos-right}
 use native.Mathlib.Omega.{arith}
 use mathlib.Core.Bool.{true, _&&_}
@@ -31,101 +8,16 @@ use mathlib.Core.Option.{Option, none, some, Option·getD}
 use mathlib.Core.Path.{_≡_, refl, ap, _∙_}
 use lib.Dec.{T, leb, ltb}
 use lib.IntN.{ℤ, pos, natAbs, _-ℤ_, _*ℤ_}
-use Rattle.paper.specs.Units.{Line, Day, Days, Nominal, Quote, Payments, Rate, Sign, Cents, Whole, SignedWhole}
+use Rattle.paper.specs.Units.{Line, Day, Days, Nominal, Quote, Payments, Rate, Sign, Cents, SignedWhole}
 use Rattle.paper.specs.Days.{day, workingAfter}
 use Rattle.paper.specs.Rows.{Trade, repo, cash, Side, seller, purchaser, SecurityRow, TradeRow}
 use Rattle.paper.specs.Valuation.{lastDay, margined, accrualDay, accrued, accruedOn, revaluated, interest, interestOf, signOf, markToMarket, Valued, valued}
+use Rattle.paper.specs.Bounds.{mostAccrualProduct, mostAccrualDivisor, mostQuote, mostWorth, mostWorthProduct, mostInterestDays, mostInterest, mostDaysAmount, mostInterestProduct, mostMark, mostLine}
 use Rattle.paper.proofs.Lists.{tests, holds}
 use Rattle.paper.proofs.Days.{working-after, working-within}
 use Rattle.paper.proofs.Rounding.{nearest-at-most}
 use Rattle.paper.proofs.Sizes.{size-difference, size-product, rounded-at-most}
 use Rattle.paper.proofs.Rules.{SecurityFacts, TradeFacts}
-
--- ---- the table, each with what it comes from
-
--- Yearly coupon × days run: 2,000,000 hundred-thousandths of a percent × 400 days
-abbrev pub mostAccrualProduct : ℕ
-mostAccrualProduct = 800_000_000
-
--- Payments a year × days of the coupon period: 4 × 400 days
-abbrev pub mostAccrualDivisor : Days
-mostAccrualDivisor = 1_600
-
--- Accrued coupon, hundred-thousandths of a percent: no more than the yearly
-abbrev pub mostAccrued : Quote
-mostAccrued = 2_000_000
-
--- Price with accrued coupon, hundred-thousandths of a percent: 20,000,000 + 2,000,000
-abbrev pub mostQuote : Quote
-mostQuote = 22_000_000
-
--- Nominal × that: 100,000,000 whole units × 22,000,000
-abbrev pub mostWorthProduct : ℕ
-mostWorthProduct = 2_200_000_000_000_000
-
--- Revaluated amount, cents: that / 100,000
-abbrev pub mostWorth : Cents
-mostWorth = 22_000_000_000
-
--- Days of repo interest: 729 of 730 days, and 5 to the next working day
-abbrev pub mostInterestDays : Days
-mostInterestDays = 734
-
--- Days × amount: 734 days × 30,000,000,000 cents
-abbrev pub mostDaysAmount : ℕ
-mostDaysAmount = 22_020_000_000_000
-
--- Days × amount × rate: that × 200,000 ten-thousandths of a percent; below 2 ^ 63
-abbrev pub mostInterestProduct : ℕ
-mostInterestProduct = 4_404_000_000_000_000_000
-
--- Repo interest, whole units: that / 36,000,000,000, and up to the next
-abbrev pub mostInterest : Whole
-mostInterest = 122_333_334
-
--- Mark-to-market, cents: 22,000,000,000 + 30,000,000,000 + 100 × 122,333,334
-abbrev pub mostMark : Cents
-mostMark = 64_233_333_400
-
--- Margined trades: no more than T rows
-abbrev pub mostTrades : ℕ
-mostTrades = 500
-
--- Line of a margined trade: the header, the D row, 40 + 200 + 200 rows and 500 T rows
-abbrev pub mostLine : Line
-mostLine = 942
-
--- Amounts of one security summed, cents: 500 × 22,000,000,000
-abbrev pub mostNetCents : Cents
-mostNetCents = 11_000_000_000_000
-
--- Net of a security, whole units: that / 100
-abbrev pub mostNet : Whole
-mostNet = 110_000_000_000
-
--- Position of a class, whole units: 200 securities × 110,000,000,000
-abbrev pub mostPosition : Whole
-mostPosition = 22_000_000_000_000
-
--- Factor × position: 10,000 ten-thousandths × that
-abbrev pub mostShareProduct : ℕ
-mostShareProduct = 220_000_000_000_000_000
-
--- Margin of a class, whole units: no more than a position
-abbrev pub mostMargin : Whole
-mostMargin = 22_000_000_000_000
-
--- Initial margin of a currency, whole units: 40 classes × that
-abbrev pub mostInitial : Whole
-mostInitial = 880_000_000_000_000
-
--- Mark-to-market sum of a currency, cents: 500 × 64,233,333,400
-abbrev pub mostMarkSum : Cents
-mostMarkSum = 32_116_666_700_000
-
--- Total of a currency, cents: 100 × 880,000,000,000,000 + 32,116,666,700,000
-abbrev pub mostTotal : Cents
-mostTotal = 88_032_116_666_700_000
 
 -- ---- one trade
 

@@ -11,10 +11,10 @@ use borrow.Author.Tests.{le-leb, lt-leb, lt-ltb, ltb-true, ltb-false, eqb-true, 
 use lib.Dec.{eqb, leb, ltb}
 use lib.ListN.{length, getD, take}
 use Rattle.paper.specs.Units.{Year, Month, DayOfMonth, Day, Days}
-use Rattle.paper.specs.Lists.{sum, only, firstThat, given}
+use Rattle.paper.specs.Lists.{sum, only, firstThat, given, Each, nil, cons}
 use Rattle.paper.specs.Days.{leap, yearDays, newYearsFrom, newYears, monthDays, dayOn, weekday, yearOf, inCycle, inRound, springMoon, sundayAfter, easter, closingDays, isClosing, isOpen, firstOpen, daysTested, workingAfter}
 use Rattle.paper.specs.Calendar.{Working}
-use Rattle.paper.proofs.Lists.{never, only-kept, only-left, length-only, Each, nil, cons}
+use Rattle.paper.proofs.Lists.{never, only-kept, only-left, length-only}
 use Rattle.paper.proofs.Days.{new-years-step, day-in-below, Found, found, working-after, working-within, working-earliest}
 
 -- ---- the year of a day

@@ -8,18 +8,18 @@ use mathlib.Core.Path.{_≡_, refl, sym, ap, _∙_, subst}
 use lib.Dec.{T, ltb, ltb→lt}
 use lib.ListN.{length}
 use Rattle.paper.specs.Units.{Currency}
-use Rattle.paper.specs.Lists.{firstThat}
+use Rattle.paper.specs.Lists.{firstThat, Each, nil, cons}
 use Rattle.paper.specs.Text.{same, before}
 use Rattle.paper.specs.Rows.{ClassRow, SecurityRow}
 use Rattle.paper.specs.Currencies.{placed, currencies, hasCurrency}
-use Rattle.paper.specs.Refusals.{securityRules}
+use Rattle.paper.specs.Refusals.{rulesOf, securityKind}
 use Rattle.paper.specs.Tables.{hold, holdDown}
-use Rattle.paper.proofs.Lists.{tests, never, Each, nil, cons, each-first, each-rest}
+use Rattle.paper.proofs.Lists.{tests, never, each-first, each-rest}
 use Rattle.paper.proofs.Order.{same-true, same-refl, before-trans, before-not-after, before-not-same, after-not-same, Compared, first, equal, second, compared}
 
 -- ---- how a currency is placed: it is there, comes first, or goes further on
 
-placed-there : (c d : Currency) (ds : List Currency) → c ≡ d → placed c (d ∷ ds) ≡ d ∷ ds
+pub placed-there : (c d : Currency) (ds : List Currency) → c ≡ d → placed c (d ∷ ds) ≡ d ∷ ds
 placed-there c d ds e = rw (ap (same c) (sym e) ∙ same-refl c, placed)
 
 pub placed-first : (c d : Currency) (ds : List Currency) → before c d ≡ true → placed c (d ∷ ds) ≡ c ∷ d ∷ ds
@@ -118,7 +118,7 @@ placed-length c (d ∷ ds) = go (compared c d) (placed-length c ds)
 -- ---- at most eight
 
 -- The rules of an S row keep it so
-row-few : (cs : List ClassRow) (above : List SecurityRow) (s : SecurityRow) → T (hold (securityRules cs above s))
+row-few : (cs : List ClassRow) (above : List SecurityRow) (s : SecurityRow) → T (hold (rulesOf (securityKind cs) above s))
     → length (currencies above) ≤ 8 → length (currencies (s ∷ above)) ≤ 8
 row-few cs above s h few = go (hasCurrency above (s .currency)) refl
   where
@@ -131,14 +131,14 @@ row-few cs above s h few = go (hasCurrency above (s .currency)) refl
         let fewer : length (currencies above) < 8 = ltb→lt (length (currencies above)) 8 (rw e at eighth) in
         omega (arith, placed-length (s .currency) (currencies above))
 
-rows-few : (cs : List ClassRow) (above ss : List SecurityRow) → T (holdDown (securityRules cs) above ss)
+rows-few : (cs : List ClassRow) (above ss : List SecurityRow) → T (holdDown (securityKind cs) above ss)
     → length (currencies above) ≤ 8 → length (currencies (reverseAux ss above)) ≤ 8
 rows-few cs above [] h few = few
 rows-few cs above (s ∷ ss) h few =
     rows-few cs (s ∷ above) ss (search tests) (row-few cs above s (search tests) few)
 
 -- Admitted tables have eight currencies at most
-pub few-currencies : (cs : List ClassRow) (ss : List SecurityRow) → T (holdDown (securityRules cs) [] ss)
+pub few-currencies : (cs : List ClassRow) (ss : List SecurityRow) → T (holdDown (securityKind cs) [] ss)
     → length (currencies ss) ≤ 8
 few-currencies cs ss h =
     subst (λ (l : List Currency). length l ≤ 8) (currencies-reverse ss) (rows-few cs [] ss h (omega arith))

@@ -15,7 +15,7 @@ use Rattle.paper.specs.Days.{day}
 use Rattle.paper.specs.Currencies.{currencies}
 use Rattle.paper.specs.Valuation.{Valued, valuedFrom}
 use Rattle.paper.specs.Offsetting.{netsIn, Book, opening}
-use Rattle.paper.specs.Refusals.{Outcome, refused, accepted, judged, _>>=_, isClass, isFactor, hasClass, priorityRules}
+use Rattle.paper.specs.Refusals.{Outcome, refused, accepted, judged, _>>=_, isClass, isFactor, hasClass, rulesOf, priorityKind}
 use Rattle.paper.specs.Sheet.{readSheet}
 use Rattle.paper.specs.Report.{tradeLine, marginOf, classLine, currencyLine, markIn, currencyLines, reportOf}
 use Rattle.paper.specs.Answer.{Answer, roomRules, answer, numberOf, bufferAfter, kit}
@@ -138,11 +138,11 @@ abbrev known : List ClassRow → PriorityRow → Bool
 known cs o = hasClass cs (o .first) && hasClass cs (o .second)
 
 -- The rules hold for a table exactly where both are so of each row, and there are at most 200
-down-allowed : (cs : List ClassRow) (above os : List PriorityRow) → T (holdDown (priorityRules cs) above os)
+down-allowed : (cs : List ClassRow) (above os : List PriorityRow) → T (holdDown (priorityKind cs) above os)
     → every (λ o. formed o && known cs o) os ≡ true
 down-allowed cs above os h =
     each-every (λ o. formed o && known cs o)
-    (each-holds (priorityRules cs) (λ o. (formed o && known cs o) ≡ true)
+    (each-holds (priorityKind cs) (λ o. (formed o && known cs o) ≡ true)
     (λ above o h.
     let six : T (formed o) = search tests in
     let ten : T (known cs o) = search tests in
@@ -150,12 +150,12 @@ down-allowed cs above os h =
     above os h)
 
 allowed-down : (cs : List ClassRow) (above os : List PriorityRow) → every (λ o. formed o && known cs o) os ≡ true
-    → length above + length os ≤ 200 → T (holdDown (priorityRules cs) above os)
+    → length above + length os ≤ 200 → T (holdDown (priorityKind cs) above os)
 allowed-down cs above [] e few = tt
 allowed-down cs above (o ∷ os) e few =
     let (here, below) = every-cons (λ o. formed o && known cs o) o os e in
     let (six, ten) = both (formed o) (known cs o) here in
-    together (hold (priorityRules cs above o)) (holdDown (priorityRules cs) (o ∷ above) os)
+    together (hold (rulesOf (priorityKind cs) above o)) (holdDown (priorityKind cs) (o ∷ above) os)
     (together (formed o) (ltb (length above) 200 && (known cs o && true)) (holds (formed o) six)
     (together (ltb (length above) 200) (known cs o && true) (lt→ltb (length above) 200 (omega arith))
     (together (known cs o) true (holds (known cs o) ten) tt)))

@@ -9,7 +9,7 @@ use mathlib.Core.Path.{_≡_, refl, _∙_}
 use lib.IntN.{natAbs}
 use lib.ListN.{length, length-append, length-map}
 use Rattle.paper.specs.Units.{Byte, Text, Fields, Date, Currency, SignedCents, Whole}
-use Rattle.paper.specs.Lists.{sum, joinedUp}
+use Rattle.paper.specs.Lists.{sum, joinedUp, Each}
 use Rattle.paper.specs.Text.{semicolon, LF, parted, lineOf, digits, signedDigits, isCurrency, ascii, blankOr}
 use Rattle.paper.specs.Rows.{Kind, government, corporate, inflation, floating, Trade, repo, cash, Side, seller, purchaser, ClassRow, PriorityRow, SecurityRow, TradeRow, Tables, kindLetter, tradeLetter, sideLetter, writeDate, writeClass, writePriority, writeSecurity, writeTrade}
 use Rattle.paper.specs.Currencies.{currencies}
@@ -17,13 +17,14 @@ use Rattle.paper.specs.Valuation.{Valued, valuedIn}
 use Rattle.paper.specs.Offsetting.{Book, position, total}
 use Rattle.paper.specs.Report.{marginOf, markIn, tradeLine, classLine, currencyLine, currencyLines, reportOf}
 use Rattle.paper.specs.Tables.{sheetOf, Admitted}
-use Rattle.paper.proofs.Lists.{Each, each-map, each-made, joined-most, joined-append}
+use Rattle.paper.specs.Bounds.{PriorityFacts, mostMarkSum, mostInitial, BookFacts}
+use Rattle.paper.proofs.Lists.{each-map, each-made, joined-most, joined-append}
 use Rattle.paper.proofs.Digits.{digits-length, signed-length, date-eight}
 use Rattle.paper.proofs.Fields.{code-length, currency-length}
 use Rattle.paper.proofs.Currencies.{few-currencies, each-currency}
-use Rattle.paper.proofs.Rules.{DateFacts, ClassFacts, PriorityFacts, SecurityFacts, TradeFacts}
-use Rattle.paper.proofs.Bounds.{mostMarkSum, mostInitial, ValuedFacts}
-use Rattle.paper.proofs.Totals.{margined-facts, table-facts, BookFacts, margin-most, total-most, remainingIn, currency-facts}
+use Rattle.paper.proofs.Rules.{DateFacts, ClassFacts, SecurityFacts, TradeFacts}
+use Rattle.paper.proofs.Bounds.{ValuedFacts}
+use Rattle.paper.proofs.Totals.{margined-facts, table-facts, margin-most, total-most, remainingIn, currency-facts}
 
 -- Fields parted by a mark, with one more mark behind them, have the fields' bytes and one more for each
 parted-length : (mark : Byte) (f : Text) (fs : Fields)

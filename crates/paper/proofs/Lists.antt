@@ -9,6 +9,7 @@ use mathlib.Core.Path.{_≡_, refl, sym, ap, _∙_, subst}
 use borrow.Author.Tests.{leb-true, le-leb}
 use lib.Dec.{T, leb, leb→le, ltb→lt}
 use lib.ListN.{length, getD, set, take, length-append}
+pub use Rattle.paper.specs.Lists.{Each, nil, cons}
 use Rattle.paper.specs.Lists.{between, sum, joinedUp, every, only, firstThat, given, when, _>>=_}
 
 -- No test both passes and fails
@@ -135,12 +136,7 @@ every-at test [] other e i h = absurd (not-suc-le-zero h)
 every-at test (x ∷ xs) other e zero h = every-cons test x xs e .0
 every-at test (x ∷ xs) other e (suc i) h = every-at test xs other (every-cons test x xs e .1) i (le-of-suc-le-suc h)
 
--- Something is true of each entry
-pub data Each {A : Type 0} (P : A → Type 0) : List A → Type 0 where
-  nil : Each P []
-  cons : {a : A} {rest : List A} → P a → Each P rest → Each P (a ∷ rest)
-
--- What follows from it is true of each too
+-- What follows from what is true of each entry is true of each too
 pub each-map : {A : Type 0} {P Q : A → Type 0} {xs : List A} → ((a : A) → P a → Q a) → Each P xs → Each Q xs
 each-map f nil = nil
 each-map f (cons {a} p ps) = cons (f a p) (each-map f ps)

@@ -8,8 +8,8 @@ use lib.ListN.{length, drop, getD, length-append, length-drop, length-map}
 use Rattle.paper.specs.Units.{Text, Fields, Line, Date}
 use Rattle.paper.specs.Days.{day}
 use Rattle.paper.specs.Text.{ascii, lines}
-use Rattle.paper.specs.Rows.{Tables, readDate, readClass, readPriority, readSecurity, readTrade, writeDate, writeClass, writePriority, writeSecurity, writeTrade}
-use Rattle.paper.specs.Refusals.{accepted, classRules, priorityRules, securityRules, tradeRules, dateRules}
+use Rattle.paper.specs.Rows.{Tables, writeClass, writePriority, writeSecurity, writeTrade}
+use Rattle.paper.specs.Refusals.{accepted, dateKind, classKind, priorityKind, securityKind, tradeKind, periodOf}
 use Rattle.paper.specs.Sheet.{Rest, headerRules, header, dateRow, section, endRules, ended, row, readSheet}
 use Rattle.paper.proofs.Lines.{lines-fewer}
 use Rattle.paper.proofs.Outcomes.{Sound, judged-sound, bind-sound}
@@ -44,8 +44,8 @@ header-within sheet rest h e =
 date-sound : (limit : Line) (rest : Rest) → rest .0 < limit → Sound limit (dateRow rest)
 date-sound limit rest h =
     let first = getD (rest .1) 0 [] in
-    bind-sound limit (row (ascii "D") 2 readDate dateRules (rest .0) first) (λ d. accepted (d, (suc (rest .0), tail (rest .1))))
-    (row-sound (ascii "D") 2 readDate writeDate (λ above. dateRules) (λ above d. refl) limit [] (rest .0) first h)
+    bind-sound limit (row dateKind [] (rest .0) first) (λ d. accepted (d, (suc (rest .0), tail (rest .1))))
+    (row-sound dateKind (λ above d. refl) limit [] (rest .0) first h)
     (λ d e. tt)
 
 -- No line remains, or the first that does is below the limit
@@ -63,22 +63,22 @@ read-sound sheet h =
     let (second, w1) = header-within sheet rest h e1 in
     bind-sound limit (dateRow rest) _ (date-sound limit rest (omega arith)) λ dated e2.
     let w2 = date-within limit rest dated e2 w1 in
-    bind-sound limit (section (ascii "C") 5 readClass classRules (dated .1)) _
-    (rows-sound (ascii "C") 5 readClass writeClass classRules (λ above r. refl) limit [] (dated .1 .0) (dated .1 .1) w2) λ classed e3.
-    let c = section-written (ascii "C") 5 readClass writeClass classRules class-inverse (dated .1) (classed .0) (classed .1) e3 in
+    bind-sound limit (section classKind (dated .1)) _
+    (rows-sound classKind (λ above r. refl) limit [] (dated .1 .0) (dated .1 .1) w2) λ classed e3.
+    let c = section-written classKind class-inverse (dated .1) (classed .0) (classed .1) e3 in
     let w3 = still-within limit writeClass (dated .1) (classed .1) (classed .0) (c .1) (c .2) w2 in
-    let orules = priorityRules (classed .0) in
-    bind-sound limit (section (ascii "O") 4 readPriority orules (classed .1)) _
-    (rows-sound (ascii "O") 4 readPriority writePriority orules (λ above r. refl) limit [] (classed .1 .0) (classed .1 .1) w3) λ ranked e4.
-    let o = section-written (ascii "O") 4 readPriority writePriority orules (priority-inverse (classed .0)) (classed .1) (ranked .0) (ranked .1) e4 in
+    let okind = priorityKind (classed .0) in
+    bind-sound limit (section okind (classed .1)) _
+    (rows-sound okind (λ above r. refl) limit [] (classed .1 .0) (classed .1 .1) w3) λ ranked e4.
+    let o = section-written okind (priority-inverse (classed .0)) (classed .1) (ranked .0) (ranked .1) e4 in
     let w4 = still-within limit writePriority (classed .1) (ranked .1) (ranked .0) (o .1) (o .2) w3 in
-    let srules = securityRules (classed .0) in
-    bind-sound limit (section (ascii "S") 10 readSecurity srules (ranked .1)) _
-    (rows-sound (ascii "S") 10 readSecurity writeSecurity srules (λ above r. refl) limit [] (ranked .1 .0) (ranked .1 .1) w4) λ secured e5.
-    let s = section-written (ascii "S") 10 readSecurity writeSecurity srules (security-inverse (classed .0)) (ranked .1) (secured .0) (secured .1) e5 in
+    let skind = securityKind (classed .0) in
+    bind-sound limit (section skind (ranked .1)) _
+    (rows-sound skind (λ above r. refl) limit [] (ranked .1 .0) (ranked .1 .1) w4) λ secured e5.
+    let s = section-written skind (security-inverse (classed .0)) (ranked .1) (secured .0) (secured .1) e5 in
     let w5 = still-within limit writeSecurity (ranked .1) (secured .1) (secured .0) (s .1) (s .2) w4 in
-    let trules = tradeRules (day (dated .0)) (secured .0) in
-    bind-sound limit (section (ascii "T") 9 readTrade trules (secured .1)) _
-    (rows-sound (ascii "T") 9 readTrade writeTrade trules (λ above r. refl) limit [] (secured .1 .0) (secured .1 .1) w5) λ traded e6.
-    let r = section-written (ascii "T") 9 readTrade writeTrade trules (trade-inverse (day (dated .0)) (secured .0)) (secured .1) (traded .0) (traded .1) e6 in
+    let tkind = tradeKind (day (dated .0)) (periodOf (secured .0)) in
+    bind-sound limit (section tkind (secured .1)) _
+    (rows-sound tkind (λ above r. refl) limit [] (secured .1 .0) (secured .1 .1) w5) λ traded e6.
+    let r = section-written tkind (trade-inverse (day (dated .0)) (periodOf (secured .0))) (secured .1) (traded .0) (traded .1) e6 in
     ended-sound limit _ (traded .1) (still-within limit writeTrade (secured .1) (traded .1) (traded .0) (r .1) (r .2) w5)

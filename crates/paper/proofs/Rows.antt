@@ -3,22 +3,24 @@ use Prim.Native.Nat.{ℕ, zero, suc, _≤_, _<_, _^_}
 use native.Mathlib.Omega.{arith}
 use mathlib.Core.Bool.{true}
 use mathlib.Core.List.{List, [], _∷_}
-use mathlib.Core.Option.{some, Option·some-injective}
+use mathlib.Core.Option.{Option, some, Option·some-injective}
 use mathlib.Core.Path.{_≡_, refl, sym, ap, _∙_, subst}
 use lib.Dec.{T}
 use lib.ListN.{length}
-use Rattle.paper.specs.Units.{Text, Fields, Date, Day}
+use Rattle.paper.specs.Units.{Text, Fields, Date, Day, Code}
 use Rattle.paper.specs.Days.{isDay}
 use Rattle.paper.specs.Text.{ascii, numberIn, dateIn, signedIn, orBlank, digits, signedDigits}
 use Rattle.paper.specs.Rows.{ClassRow, PriorityRow, SecurityRow, TradeRow, field, kindIn, tradeIn, sideIn}
 use Rattle.paper.specs.Rows.{readDate, writeDate, readClass, writeClass, readPriority, writePriority, readSecurity, writeSecurity, readTrade, writeTrade}
-use Rattle.paper.specs.Refusals.{dateRules, classRules, priorityRules, securityRules, tradeRules}
+use Rattle.paper.specs.Refusals.{Period, dateKind, classKind, priorityKind, securityKind, tradeKind}
 use Rattle.paper.specs.Sheet.{begins}
-use Rattle.paper.proofs.Lists.{bind-some, nil, cons}
+use Rattle.paper.specs.Lists.{nil, cons}
+use Rattle.paper.specs.Bounds.{PriorityFacts}
+use Rattle.paper.proofs.Lists.{bind-some}
 use Rattle.paper.proofs.Order.{same-true}
 use Rattle.paper.proofs.Digits.{digits-number, number-digits, signed-back, signed-digits, date-back, date-digits}
 use Rattle.paper.proofs.Fields.{kind-letter, trade-letter, side-letter, kind-back, trade-back, side-back, blank-back, blank-written, digits-some, signed-some, digits-plain, signed-plain, blank-plain, kind-plain, trade-plain, side-plain, code-plain, currency-plain}
-use Rattle.paper.proofs.Rules.{ClassFacts, PriorityFacts, SecurityFacts, TradeFacts, date-facts, class-facts, priority-facts, security-facts, trade-facts}
+use Rattle.paper.proofs.Rules.{ClassFacts, SecurityFacts, TradeFacts, date-facts, class-facts, priority-facts, security-facts, trade-facts}
 use Rattle.paper.proofs.Sections.{Inverse}
 
 -- ---- fields by their places
@@ -47,7 +49,7 @@ small h k = omega arith
 -- ---- the row kinds
 
 -- C rows
-pub class-inverse : Inverse (ascii "C") 5 readClass writeClass classRules
+pub class-inverse : Inverse classKind
 class-inverse =
     record {
       begun = λ r. refl;
@@ -84,7 +86,7 @@ class-inverse =
         (lettered (ascii "C") 4 fs b n))
 
 -- The D row, whose rules look at no row above
-pub date-inverse : Inverse (ascii "D") 2 readDate writeDate (λ above. dateRules)
+pub date-inverse : Inverse dateKind
 date-inverse =
     record {
       begun = λ r. refl;
@@ -100,7 +102,7 @@ date-inverse =
         rw (date-digits (field 1 fs) d e real) (lettered (ascii "D") 1 fs b n)
 
 -- O rows
-pub priority-inverse : (cs : List ClassRow) → Inverse (ascii "O") 4 readPriority writePriority (priorityRules cs)
+pub priority-inverse : (cs : List ClassRow) → Inverse (priorityKind cs)
 priority-inverse cs =
     record {
       begun = λ r. refl;
@@ -130,7 +132,7 @@ priority-inverse cs =
         (lettered (ascii "O") 3 fs b n))
 
 -- S rows
-pub security-inverse : (cs : List ClassRow) → Inverse (ascii "S") 10 readSecurity writeSecurity (securityRules cs)
+pub security-inverse : (cs : List ClassRow) → Inverse (securityKind cs)
 security-inverse cs =
     record {
       begun = λ r. refl;
@@ -178,16 +180,16 @@ security-inverse cs =
         (lettered (ascii "S") 9 fs b n))
 
 -- T rows
-pub trade-inverse : (today : Day) (ss : List SecurityRow) → Inverse (ascii "T") 9 readTrade writeTrade (tradeRules today ss)
-trade-inverse today ss =
+pub trade-inverse : (today : Day) (periods : Code → Option Period) → Inverse (tradeKind today periods)
+trade-inverse today periods =
     record {
       begun = λ r. refl;
       counted = λ r. refl;
-      back = λ above t h. back t (trade-facts today ss above t h);
-      written = λ above t fs h b n e. written t fs (trade-facts today ss above t h) b n e;
+      back = λ above t h. back t (trade-facts today periods above t h);
+      written = λ above t fs h b n e. written t fs (trade-facts today periods above t h) b n e;
       plain-fields = λ above t h.
           cons refl (cons (trade-plain (t .trade)) (cons (side-plain (t .side))
-          (cons (code-plain (t .code) (trade-facts today ss above t h .code)) (cons (digits-plain (t .nominal)) (cons (digits-plain (t .amount))
+          (cons (code-plain (t .code) (trade-facts today periods above t h .code)) (cons (digits-plain (t .nominal)) (cons (digits-plain (t .amount))
           (cons (digits-plain (t .first)) (cons (blank-plain digits (t .last) digits-plain)
           (cons (blank-plain signedDigits (t .rate) signed-plain) nil))))))));
     }

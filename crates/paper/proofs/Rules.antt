@@ -8,15 +8,16 @@ use mathlib.Core.Path.{_≡_, refl}
 use lib.Dec.{T, eqb, leb, ltb, leb→le, eqb→eq}
 use lib.IntN.{natAbs}
 use lib.ListN.{length}
-use Rattle.paper.specs.Units.{Date, Day, Duration, Payments, Rate}
+use Rattle.paper.specs.Units.{Date, Day, Code, Duration, Payments, Rate}
 use Rattle.paper.specs.Days.{isDay, day}
-use Rattle.paper.specs.Lists.{given}
+use Rattle.paper.specs.Lists.{given, Each, nil, cons}
 use Rattle.paper.specs.Text.{isCode, isCurrency}
 use Rattle.paper.specs.Rows.{Kind, Trade, repo, cash, ClassRow, PriorityRow, SecurityRow, TradeRow}
 use Rattle.paper.specs.Valuation.{lastDay, margined, accrualDay, securityOf}
-use Rattle.paper.specs.Refusals.{Rule, isDuration, isTerm, tradeDates, inPeriod, dateRules, classRules, priorityRules, securityRules, tradeRules}
+use Rattle.paper.specs.Refusals.{RowKind, rulesOf, Period, periodOf, isDuration, isTerm, tradeDates, inPeriod, dateKind, classKind, priorityKind, securityKind, tradeKind}
+use Rattle.paper.specs.Bounds.{PriorityFacts}
 use Rattle.paper.specs.Tables.{hold, holdDown}
-use Rattle.paper.proofs.Lists.{passes, holds, right, otherwise, tests, Each, nil, cons}
+use Rattle.paper.proofs.Lists.{passes, holds, right, otherwise, tests}
 
 -- A border or a duration that is there is 1 to 1,000,000 ten-thousandths of a year
 duration-facts : (kind : Kind) (o : Option Duration) → T (isDuration kind o)
@@ -32,7 +33,7 @@ pub record DateFacts (d : Date) : Type 0 where
   pub real : isDay d ≡ true
   pub high : d ≤ 23_991_220
 
-pub date-facts : (d : Date) → T (hold (dateRules d)) → DateFacts d
+pub date-facts : (d : Date) → T (hold (rulesOf dateKind [] d)) → DateFacts d
 date-facts d h = search tests
 
 -- What a C row's rules say of its fields. Border: ten-thousandths of a year; deposit factor: ten-thousandths
@@ -42,19 +43,12 @@ pub record ClassFacts (c : ClassRow) : Type 0 where
   pub border : (d : Duration) → c .border ≡ some d → (1 ≤ d) × (d ≤ 1_000_000)
   pub deposit : c .deposit ≤ 10_000
 
-pub class-facts : (above : List ClassRow) (c : ClassRow) → T (hold (classRules above c)) → ClassFacts c
+pub class-facts : (above : List ClassRow) (c : ClassRow) → T (hold (rulesOf classKind above c)) → ClassFacts c
 class-facts above c h = search (tests, duration-facts (c .kind) (c .border))
 
--- What an O row's rules say of its fields. Factor: ten-thousandths
-pub record PriorityFacts (o : PriorityRow) : Type 0 where
-  pub first-low : 1 ≤ o .first
-  pub first-high : o .first ≤ 40
-  pub second-low : 1 ≤ o .second
-  pub second-high : o .second ≤ 40
-  pub factor : o .factor ≤ 10_000
-
+-- What an O row's rules say of its fields
 pub priority-facts : (cs : List ClassRow) (above : List PriorityRow) (o : PriorityRow)
-    → T (hold (priorityRules cs above o)) → PriorityFacts o
+    → T (hold (rulesOf (priorityKind cs) above o)) → PriorityFacts o
 priority-facts cs above o h = search tests
 
 -- Payments a year that are 1, 2 or 4 are 1 to 4
@@ -83,7 +77,7 @@ pub record SecurityFacts (s : SecurityRow) : Type 0 where
   pub period-high : day (s .next) - day (s .previous) ≤ 400
 
 pub security-facts : (cs : List ClassRow) (above : List SecurityRow) (s : SecurityRow)
-    → T (hold (securityRules cs above s)) → SecurityFacts s
+    → T (hold (rulesOf (securityKind cs) above s)) → SecurityFacts s
 security-facts cs above s h =
     let payments = payments-facts (s .payments) (search tests) in
     record {
@@ -147,9 +141,9 @@ pub record TradeFacts (t : TradeRow) : Type 0 where
   pub last : (d : Date) → t .last ≡ some d → isDay d ≡ true
   pub term : t .trade ≡ repo → (1 ≤ lastDay t - day (t .first)) × (lastDay t - day (t .first) ≤ 730)
 
-pub trade-facts : (today : Day) (ss : List SecurityRow) (above : List TradeRow) (t : TradeRow)
-    → T (hold (tradeRules today ss above t)) → TradeFacts t
-trade-facts today ss above t h =
+pub trade-facts : (today : Day) (periods : Code → Option Period) (above : List TradeRow) (t : TradeRow)
+    → T (hold (rulesOf (tradeKind today periods) above t)) → TradeFacts t
+trade-facts today periods above t h =
     let form : T (isTerm (t .trade) (t .last) (t .rate)) = search tests in
     let dates : T (tradeDates (t .trade) (t .first) (t .last)) = search tests in
     record {
@@ -166,11 +160,11 @@ trade-facts today ss above t h =
 
 -- The accrual day of a margined trade is at or after the previous coupon date and before the next
 pub in-period : (today : Day) (ss : List SecurityRow) (above : List TradeRow) (t : TradeRow)
-    → T (hold (tradeRules today ss above t))
+    → T (hold (rulesOf (tradeKind today (periodOf ss)) above t))
     → (s : SecurityRow) → securityOf ss (t .code) ≡ some s → margined today t ≡ true
     → (day (s .previous) ≤ accrualDay today t) × (accrualDay today t < day (s .next))
 in-period today ss above t h s e m =
-    let period : T (inPeriod today t (securityOf ss (t .code))) = search tests in
+    let period : T (inPeriod today t (periodOf ss (t .code))) = search tests in
     let on = otherwise (margined today t) (within (accrualDay today t)) m (rw e at period) in
     search tests
   where
@@ -178,39 +172,39 @@ in-period today ss above t h s e m =
     within on = leb (day (s .previous)) on && ltb on (day (s .next))
 
 -- What the rules say of a row is so of each row of a table for which they hold
-pub each-holds : {R : Type 0} (rules : List R → R → List Rule) (P : R → Type 0)
-    → ((above : List R) (r : R) → T (hold (rules above r)) → P r)
-    → (above rs : List R) → T (holdDown rules above rs) → Each P rs
-each-holds rules P facts above [] h = nil
-each-holds rules P facts above (r ∷ rs) h =
-    cons (facts above r (search tests)) (each-holds rules P facts (r ∷ above) rs (search tests))
+pub each-holds : {R : Type 0} (kind : RowKind R) (P : R → Type 0)
+    → ((above : List R) (r : R) → T (hold (rulesOf kind above r)) → P r)
+    → (above rs : List R) → T (holdDown kind above rs) → Each P rs
+each-holds kind P facts above [] h = nil
+each-holds kind P facts above (r ∷ rs) h =
+    cons (facts above r (search tests)) (each-holds kind P facts (r ∷ above) rs (search tests))
 
 -- Where each row has fewer than so many above it, a table has no more than so many
-pub at-most : {R : Type 0} (rules : List R → R → List Rule) (most : ℕ)
-    → ((above : List R) (r : R) → T (hold (rules above r)) → length above < most)
-    → (above rs : List R) → length above ≤ most → T (holdDown rules above rs) → length above + length rs ≤ most
-at-most rules most few above [] l h = omega arith
-at-most rules most few above (r ∷ rs) l h =
-    omega (arith, at-most rules most few (r ∷ above) rs (few above r (search tests)) (search tests))
+pub at-most : {R : Type 0} (kind : RowKind R) (most : ℕ)
+    → ((above : List R) (r : R) → T (hold (rulesOf kind above r)) → length above < most)
+    → (above rs : List R) → length above ≤ most → T (holdDown kind above rs) → length above + length rs ≤ most
+at-most kind most few above [] l h = omega arith
+at-most kind most few above (r ∷ rs) l h =
+    omega (arith, at-most kind most few (r ∷ above) rs (few above r (search tests)) (search tests))
 
 -- A sheet has at most 40 classes
-pub classes-at-most : (cs : List ClassRow) → T (holdDown classRules [] cs) → length cs ≤ 40
-classes-at-most cs h = omega (arith, at-most classRules 40 (λ above c h. search tests) [] cs (omega arith) h)
+pub classes-at-most : (cs : List ClassRow) → T (holdDown classKind [] cs) → length cs ≤ 40
+classes-at-most cs h = omega (arith, at-most classKind 40 (λ above c h. search tests) [] cs (omega arith) h)
 
 -- ... at most 200 priority rows
 pub priorities-at-most : (cs : List ClassRow) (os : List PriorityRow)
-    → T (holdDown (priorityRules cs) [] os) → length os ≤ 200
+    → T (holdDown (priorityKind cs) [] os) → length os ≤ 200
 priorities-at-most cs os h =
-    omega (arith, at-most (priorityRules cs) 200 (λ above o h. search tests) [] os (omega arith) h)
+    omega (arith, at-most (priorityKind cs) 200 (λ above o h. search tests) [] os (omega arith) h)
 
 -- ... at most 200 securities
 pub securities-at-most : (cs : List ClassRow) (ss : List SecurityRow)
-    → T (holdDown (securityRules cs) [] ss) → length ss ≤ 200
+    → T (holdDown (securityKind cs) [] ss) → length ss ≤ 200
 securities-at-most cs ss h =
-    omega (arith, at-most (securityRules cs) 200 (λ above s h. search tests) [] ss (omega arith) h)
+    omega (arith, at-most (securityKind cs) 200 (λ above s h. search tests) [] ss (omega arith) h)
 
 -- ... and at most 500 trades
-pub trades-at-most : (today : Day) (ss : List SecurityRow) (ts : List TradeRow)
-    → T (holdDown (tradeRules today ss) [] ts) → length ts ≤ 500
-trades-at-most today ss ts h =
-    omega (arith, at-most (tradeRules today ss) 500 (λ above t h. search tests) [] ts (omega arith) h)
+pub trades-at-most : (today : Day) (periods : Code → Option Period) (ts : List TradeRow)
+    → T (holdDown (tradeKind today periods) [] ts) → length ts ≤ 500
+trades-at-most today periods ts h =
+    omega (arith, at-most (tradeKind today periods) 500 (λ above t h. search tests) [] ts (omega arith) h)

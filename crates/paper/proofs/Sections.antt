@@ -10,11 +10,11 @@ use borrow.Author.Tests.{eqb-true, eq-eqb, not-true}
 use lib.Dec.{T, eqb}
 use lib.ListN.{length}
 use Rattle.paper.specs.Units.{Text, Fields, Line}
-use Rattle.paper.specs.Lists.{every}
-use Rattle.paper.specs.Refusals.{Outcome, refused, accepted, Rule, judged}
+use Rattle.paper.specs.Lists.{every, Each}
+use Rattle.paper.specs.Refusals.{Outcome, refused, accepted, judged, RowKind, rulesOf}
 use Rattle.paper.specs.Sheet.{Rest, begins, row, rowsFrom, section}
 use Rattle.paper.specs.Tables.{hold, holdDown}
-use Rattle.paper.proofs.Lists.{tests, together, both, Each}
+use Rattle.paper.proofs.Lists.{tests, together, both}
 use Rattle.paper.proofs.Lines.{plain}
 use Rattle.paper.proofs.Outcomes.{accepted-one, not-accepted, judged-holds, judged-accepted, Sound, numbered, judged-sound}
 
@@ -29,27 +29,22 @@ pub stops-before : {R : Type 0} (letter : Text) (write : R → Fields) → ((r :
 stops-before letter write other [] more h = h
 stops-before letter write other (r ∷ rs) more h = ap not (other r)
 
--- A row kind: its letter, its number of fields, how it is read and written, and its rules, which may look at the rows above
-module _ {R : Type 0} (letter : Text) (many : ℕ) (read : Fields → Option R) (write : R → Fields) (rules : List R → R → List Rule) where
+module _ {R : Type 0} (kind : RowKind R) where
   -- Reading is the inverse of writing for the rows that the rules admit
   pub record Inverse : Type 0 where
-    pub begun : (r : R) → begins letter (write r) ≡ true
-    pub counted : (r : R) → length (write r) ≡ many
-    pub back : (above : List R) (r : R) → T (hold (rules above r)) → read (write r) ≡ some r
-    pub written : (above : List R) (r : R) (fs : Fields) → T (hold (rules above r)) → begins letter fs ≡ true → length fs ≡ many
-        → read fs ≡ some r → write r ≡ fs
-    pub plain-fields : (above : List R) (r : R) → T (hold (rules above r)) → Each (λ f. every plain f ≡ true) (write r)
-
-  -- How a row is judged with the rows above it
-  abbrev judge : List R → Line → Fields → Outcome R
-  judge above = row letter many read (rules above)
+    pub begun : (r : R) → begins (kind .letter) (kind .write r) ≡ true
+    pub counted : (r : R) → length (kind .write r) ≡ (kind .many)
+    pub back : (above : List R) (r : R) → T (hold (rulesOf kind above r)) → kind .read (kind .write r) ≡ some r
+    pub written : (above : List R) (r : R) (fs : Fields) → T (hold (rulesOf kind above r)) → begins (kind .letter) fs ≡ true → length fs ≡ (kind .many)
+        → kind .read fs ≡ some r → kind .write r ≡ fs
+    pub plain-fields : (above : List R) (r : R) → T (hold (rulesOf kind above r)) → Each (λ f. every plain f ≡ true) (kind .write r)
 
   -- ... by whether it has its letter and its number of fields, and by what its fields read as
   abbrev formed : List R → Line → Bool → Option R → Outcome R
   formed above at form o =
       elim form [
         | false ↦ refused 5 at
-        | true ↦ elim o [ none ↦ refused 6 at | some r ↦ judged at r (rules above r) ]
+        | true ↦ elim o [ none ↦ refused 6 at | some r ↦ judged at r (rulesOf kind above r) ]
       ]
 
   -- How a section goes on at a line: by whether that has the letter, and by how it is judged
@@ -57,29 +52,29 @@ module _ {R : Type 0} (letter : Text) (many : ℕ) (read : Fields → Option R) 
   stepped above at fs more b o =
       elim b [
         | false ↦ accepted (reverse above, (at, fs ∷ more))
-        | true ↦ elim o [ refused number line ↦ refused number line | accepted r ↦ rowsFrom letter judge (r ∷ above) (suc at) more ]
+        | true ↦ elim o [ refused number line ↦ refused number line | accepted r ↦ rowsFrom kind (r ∷ above) (suc at) more ]
       ]
 
   -- A refusal's number is 1 to 12, and its line that of the row
-  pub row-sound : ((above : List R) (r : R) → numbered (rules above r) ≡ true) → (limit : Line) (above : List R) (at : Line) (fs : Fields)
-      → at < limit → Sound limit (judge above at fs)
-  row-sound n limit above at fs l = go (begins letter fs && eqb (length fs) many) (read fs)
+  pub row-sound : ((above : List R) (r : R) → numbered (rulesOf kind above r) ≡ true) → (limit : Line) (above : List R) (at : Line) (fs : Fields)
+      → at < limit → Sound limit (row kind above at fs)
+  row-sound n limit above at fs l = go (begins (kind .letter) fs && eqb (length fs) (kind .many)) (kind .read fs)
     where
       go : (form : Bool) (o : Option R) → Sound limit (formed above at form o)
       go false o = (omega arith, omega arith, l)
       go true none = (omega arith, omega arith, l)
-      go true (some r) = judged-sound limit at r (rules above r) (n above r) l
+      go true (some r) = judged-sound limit at r (rulesOf kind above r) (n above r) l
 
   -- Nor are those of a section: its lines are below a limit
-  pub rows-sound : ((above : List R) (r : R) → numbered (rules above r) ≡ true) → (limit : Line) (above : List R) (at : Line) (fss : List Fields)
-      → at + length fss ≤ limit → Sound limit (rowsFrom letter judge above at fss)
+  pub rows-sound : ((above : List R) (r : R) → numbered (rulesOf kind above r) ≡ true) → (limit : Line) (above : List R) (at : Line) (fss : List Fields)
+      → at + length fss ≤ limit → Sound limit (rowsFrom kind above at fss)
   unfolding rowsFrom
   rows-sound n limit above at [] l = tt
   rows-sound n limit above at (fs ∷ more) l =
-      go (begins letter fs) (judge above at fs) (row-sound n limit above at fs (omega arith))
+      go (begins (kind .letter) fs) (row kind above at fs) (row-sound n limit above at fs (omega arith))
       (λ r. rows-sound n limit (r ∷ above) (suc at) more (omega arith))
     where
-      go : (b : Bool) (o : Outcome R) → Sound limit o → ((r : R) → Sound limit (rowsFrom letter judge (r ∷ above) (suc at) more))
+      go : (b : Bool) (o : Outcome R) → Sound limit o → ((r : R) → Sound limit (rowsFrom kind (r ∷ above) (suc at) more))
           → Sound limit (stepped above at fs more b o)
       go false o s rest = tt
       go true (refused number line) s rest = s
@@ -87,41 +82,41 @@ module _ {R : Type 0} (letter : Text) (many : ℕ) (read : Fields → Option R) 
 
   module _ (inverse : Inverse) where
     -- A written row is read back
-    pub row-back : (above : List R) (at : Line) (r : R) → T (hold (rules above r)) → judge above at (write r) ≡ accepted r
+    pub row-back : (above : List R) (at : Line) (r : R) → T (hold (rulesOf kind above r)) → row kind above at (kind .write r) ≡ accepted r
     row-back above at r h =
-        let form : (begins letter (write r) && eqb (length (write r)) many) ≡ true =
-        rw (inverse .begun r) (eq-eqb (length (write r)) many (inverse .counted r))
+        let form : (begins (kind .letter) (kind .write r) && eqb (length (kind .write r)) (kind .many)) ≡ true =
+        rw (inverse .begun r) (eq-eqb (length (kind .write r)) (kind .many) (inverse .counted r))
         in
-        ap₂ (formed above at) form (inverse .back above r h) ∙ judged-holds at r (rules above r) h
+        ap₂ (formed above at) form (inverse .back above r h) ∙ judged-holds at r (rulesOf kind above r) h
 
     -- What is read was so written
-    pub row-written : (above : List R) (at : Line) (fs : Fields) (r : R) → judge above at fs ≡ accepted r
-        → (write r ≡ fs) × T (hold (rules above r))
-    row-written above at fs r e = go (begins letter fs && eqb (length fs) many) refl (read fs) refl e
+    pub row-written : (above : List R) (at : Line) (fs : Fields) (r : R) → row kind above at fs ≡ accepted r
+        → (kind .write r ≡ fs) × T (hold (rulesOf kind above r))
+    row-written above at fs r e = go (begins (kind .letter) fs && eqb (length fs) (kind .many)) refl (kind .read fs) refl e
       where
-        go : (form : Bool) → (begins letter fs && eqb (length fs) many) ≡ form → (o : Option R) → read fs ≡ o
-            → formed above at form o ≡ accepted r → (write r ≡ fs) × T (hold (rules above r))
+        go : (form : Bool) → (begins (kind .letter) fs && eqb (length fs) (kind .many)) ≡ form → (o : Option R) → kind .read fs ≡ o
+            → formed above at form o ≡ accepted r → (kind .write r ≡ fs) × T (hold (rulesOf kind above r))
         go false f o k e = not-accepted e
         go true f none k e = not-accepted e
         go true f (some q) k e =
-            let form = both (begins letter fs) (eqb (length fs) many) f in
-            let judged = judged-accepted at q r (rules above q) e in
-            let h : T (hold (rules above r)) = subst (λ (x : R). T (hold (rules above x))) (judged .0) (judged .1) in
-            (inverse .written above r fs h (form .0) (eqb-true (length fs) many (form .1)) (k ∙ ap some (judged .0)), h)
+            let form = both (begins (kind .letter) fs) (eqb (length fs) (kind .many)) f in
+            let judged = judged-accepted at q r (rulesOf kind above q) e in
+            let h : T (hold (rulesOf kind above r)) = subst (λ (x : R). T (hold (rulesOf kind above x))) (judged .0) (judged .1) in
+            (inverse .written above r fs h (form .0) (eqb-true (length fs) (kind .many) (form .1)) (k ∙ ap some (judged .0)), h)
 
     -- A row more behind those above
     behind : (above : List R) (r : R) (rs : List R) → reverse (r ∷ above) ++ rs ≡ reverse above ++ (r ∷ rs)
     behind above r rs = ap (λ (l : List R). l ++ rs) (reverse-cons r above) ∙ append-assoc (reverse above) (r ∷ []) rs
 
     -- Written rows are read back, down to the first line with another letter
-    pub rows-back : (above rs : List R) (at : Line) (more : List Fields) → T (holdDown rules above rs) → stops letter more ≡ true
-        → rowsFrom letter judge above at (map write rs ++ more) ≡ accepted (reverse above ++ rs, (at + length rs, more))
+    pub rows-back : (above rs : List R) (at : Line) (more : List Fields) → T (holdDown kind above rs) → stops (kind .letter) more ≡ true
+        → rowsFrom kind above at (map (kind .write) rs ++ more) ≡ accepted (reverse above ++ rs, (at + length rs, more))
     unfolding rowsFrom
     rows-back above [] at [] h s = rw (append-nil, add-zero)
-    rows-back above [] at (fs ∷ more) h s = rw (not-true (begins letter fs) s, rowsFrom, append-nil, add-zero)
+    rows-back above [] at (fs ∷ more) h s = rw (not-true (begins (kind .letter) fs) s, rowsFrom, append-nil, add-zero)
     rows-back above (r ∷ rs) at more h s =
-        let here : T (hold (rules above r)) = search tests in
-        let below : T (holdDown rules (r ∷ above) rs) = search tests in
+        let here : T (hold (rulesOf kind above r)) = search tests in
+        let below : T (holdDown kind (r ∷ above) rs) = search tests in
         rw (inverse .begun r, rowsFrom, row-back above at r here)
         (rows-back (r ∷ above) rs (suc at) more below s ∙ rw (behind above r rs, suc-add, add-suc))
 
@@ -129,9 +124,9 @@ module _ {R : Type 0} (letter : Text) (many : ℕ) (read : Fields → Option R) 
     record Read (above : List R) (at : Line) (fss : List Fields) (all : List R) (rest : Rest) : Type 0 where
       rows : List R
       in-all : all ≡ reverse above ++ rows
-      in-lines : fss ≡ map write rows ++ rest .1
+      in-lines : fss ≡ map (kind .write) rows ++ rest .1
       on-line : rest .0 ≡ at + length rows
-      down : T (holdDown rules above rows)
+      down : T (holdDown kind above rows)
 
     -- None, where no line has the letter
     none-read : (above : List R) (at : Line) (fss : List Fields) (all : List R) (rest : Rest)
@@ -148,15 +143,15 @@ module _ {R : Type 0} (letter : Text) (many : ℕ) (read : Fields → Option R) 
 
     -- Rows that are read were so written
     rows-written : (above : List R) (at : Line) (fss : List Fields) (all : List R) (rest : Rest)
-        → rowsFrom letter judge above at fss ≡ accepted (all, rest) → Read above at fss all rest
+        → rowsFrom kind above at fss ≡ accepted (all, rest) → Read above at fss all rest
     unfolding rowsFrom
     rows-written above at [] all rest e = none-read above at [] all rest e
     rows-written above at (fs ∷ more) all rest e =
-        go (begins letter fs) (judge above at fs) refl e (λ r. rows-written (r ∷ above) (suc at) more all rest)
+        go (begins (kind .letter) fs) (row kind above at fs) refl e (λ r. rows-written (r ∷ above) (suc at) more all rest)
       where
-        go : (b : Bool) (o : Outcome R) → judge above at fs ≡ o
+        go : (b : Bool) (o : Outcome R) → row kind above at fs ≡ o
             → stepped above at fs more b o ≡ accepted (all, rest)
-            → ((r : R) → rowsFrom letter judge (r ∷ above) (suc at) more ≡ accepted (all, rest) → Read (r ∷ above) (suc at) more all rest)
+            → ((r : R) → rowsFrom kind (r ∷ above) (suc at) more ≡ accepted (all, rest) → Read (r ∷ above) (suc at) more all rest)
             → Read above at (fs ∷ more) all rest
         go false o k e later = none-read above at (fs ∷ more) all rest e
         go true (refused number line) k e later = not-accepted e
@@ -168,12 +163,12 @@ module _ {R : Type 0} (letter : Text) (many : ℕ) (read : Fields → Option R) 
               in-all = below .in-all ∙ behind above r (below .rows);
               in-lines = ap₂ (λ (l : Fields) (ls : List Fields). l ∷ ls) (sym (here .0)) (below .in-lines);
               on-line = omega (arith, below .on-line);
-              down = together (hold (rules above r)) (holdDown rules (r ∷ above) (below .rows)) (here .1) (below .down);
+              down = together (hold (rulesOf kind above r)) (holdDown kind (r ∷ above) (below .rows)) (here .1) (below .down);
             }
 
     -- So is a section: its rows, each as it is written, then the lines that remain
-    pub section-written : (rest : Rest) (all : List R) (more : Rest) → section letter many read rules rest ≡ accepted (all, more)
-        → T (holdDown rules [] all) × (rest .1 ≡ map write all ++ more .1) × (more .0 ≡ rest .0 + length all)
+    pub section-written : (rest : Rest) (all : List R) (more : Rest) → section kind rest ≡ accepted (all, more)
+        → T (holdDown kind [] all) × (rest .1 ≡ map (kind .write) all ++ more .1) × (more .0 ≡ rest .0 + length all)
     section-written rest all more e =
         let r = rows-written [] (rest .0) (rest .1) all more e in
         rw (r .in-all) (r .down, r .in-lines, r .on-line)

@@ -11,7 +11,7 @@ use lib.IntN.{ℤ, pos, negsuc, negℤ, natAbs, subℕ, _+ℤ_, _-ℤ_, _*ℤ_}
 use lib.ListN.{length}
 use Rattle.paper.specs.Rounding.{nearest, rounded}
 use Rattle.paper.specs.Signs.{aboveZero, belowZero, signedSum}
-use Rattle.paper.proofs.Lists.{Each, nil, cons}
+use Rattle.paper.specs.Lists.{Each, nil, cons}
 use Rattle.paper.proofs.Rounding.{nearest-at-most, nearest-below, rounded-pos, rounded-negsuc}
 
 -- A negative has its number's size

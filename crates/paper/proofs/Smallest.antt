@@ -11,8 +11,7 @@ use lib.ListN.{length, drop}
 use Rattle.paper.specs.Units.{Text, Fields, Number, Line}
 use Rattle.paper.specs.Lists.{firstThat, given}
 use Rattle.paper.specs.Text.{ascii, lines}
-use Rattle.paper.specs.Rows.{readDate, readClass, readPriority, readSecurity, readTrade}
-use Rattle.paper.specs.Refusals.{Outcome, refused, accepted, Rule, judged, dateRules, classRules, priorityRules, securityRules, tradeRules}
+use Rattle.paper.specs.Refusals.{Outcome, refused, accepted, Rule, judged, RowKind, rulesOf, dateKind, classKind, priorityKind, securityKind, tradeKind}
 use Rattle.paper.specs.Sheet.{begins, headerRules}
 use Rattle.paper.specs.Answer.{roomRules}
 use Rattle.paper.specs.Demands.{breaks, Smallest, RowSmallest, SmallestNumber}
@@ -71,34 +70,34 @@ judged-smallest at a lowest ((number, true) ∷ rules) e =
 judged-smallest {A} at a lowest ((number, false) ∷ rules) e = failing A at number rules (both (leb lowest number) (rise number rules) e .1)
 
 -- ... and so is a row whose rules rise from 6 on: 5 and the form of its fields come before them
-row-smallest : {R : Type 0} (letter : Text) (many : ℕ) (read : Fields → Option R) (rules : R → List Rule)
-    → ((r : R) → rise 6 (rules r) ≡ true) → RowSmallest letter many read rules
-row-smallest {R} letter many read rules rising at fs = go (begins letter fs && eqb (length fs) many) (read fs)
+row-smallest : {R : Type 0} (kind : RowKind R) → ((above : List R) (r : R) → rise 6 (rulesOf kind above r) ≡ true) → RowSmallest kind
+row-smallest {R} kind rising above at fs = go (begins (kind .letter) fs && eqb (length fs) (kind .many)) (kind .read fs)
   where
     behind : Option R → List Rule
-    behind o = elim o [ none ↦ [] | some r ↦ rules r ]
+    behind o = elim o [ none ↦ [] | some r ↦ rulesOf kind above r ]
 
     up : (o : Option R) → rise 6 (behind o) ≡ true
     up none = refl
-    up (some r) = rising r
+    up (some r) = rising above r
 
     go : (form : Bool) (o : Option R)
         → Smallest {A = R} at ((5, form) ∷ (6, given o) ∷ behind o)
-        (elim form [ false ↦ refused 5 at | true ↦ elim o [ none ↦ refused 6 at | some r ↦ judged at r (rules r) ] ])
+        (elim form [ false ↦ refused 5 at | true ↦ elim o [ none ↦ refused 6 at | some r ↦ judged at r (rulesOf kind above r) ] ])
     go false o = failing R at 5 ((6, given o) ∷ behind o) (up o)
     go true none = after-holding {A = R} at 5 ((6, false) ∷ []) (refused 6 at) (failing R at 6 [] refl)
     go true (some r) =
-        after-holding at 5 ((6, true) ∷ rules r) (judged at r (rules r))
-        (after-holding at 6 (rules r) (judged at r (rules r)) (judged-smallest at r 6 (rules r) (rising r)))
+        let rules = rulesOf kind above r in
+        after-holding at 5 ((6, true) ∷ rules) (judged at r rules)
+        (after-holding at 6 rules (judged at r rules) (judged-smallest at r 6 rules (rising above r)))
 
 -- The rules of document 01 rise, those of each row kind too
 pub smallest-number : SmallestNumber
 smallest-number = (
   λ room sheet. judged-smallest 0 sheet 1 (roomRules room sheet) refl,
   λ sheet. judged-smallest 1 (2, lines (drop 6 sheet)) 3 (headerRules sheet) refl,
-  row-smallest (ascii "D") 2 readDate dateRules (λ d. refl),
-  λ above. row-smallest (ascii "C") 5 readClass (classRules above) (λ c. refl),
-  λ cs above. row-smallest (ascii "O") 4 readPriority (priorityRules cs above) (λ o. refl),
-  λ cs above. row-smallest (ascii "S") 10 readSecurity (securityRules cs above) (λ s. refl),
-  λ today ss above. row-smallest (ascii "T") 9 readTrade (tradeRules today ss above) (λ t. refl),
+  row-smallest dateKind (λ above d. refl),
+  row-smallest classKind (λ above c. refl),
+  λ cs. row-smallest (priorityKind cs) (λ above o. refl),
+  λ cs. row-smallest (securityKind cs) (λ above s. refl),
+  λ today periods. row-smallest (tradeKind today periods) (λ above t. refl),
 )

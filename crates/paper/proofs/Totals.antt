@@ -10,22 +10,23 @@ use lib.Dec.{T}
 use lib.IntN.{ℤ, pos, natAbs, _-ℤ_}
 use lib.ListN.{length, length-map}
 use Rattle.paper.specs.Units.{Line, Day, Class, Code, Currency, Factor, SignedCents, Whole, SignedWhole}
-use Rattle.paper.specs.Lists.{sum, only}
+use Rattle.paper.specs.Lists.{sum, only, Each, nil, cons}
 use Rattle.paper.specs.Signs.{aboveZero, belowZero, signedSum}
 use Rattle.paper.specs.Days.{day}
 use Rattle.paper.specs.Text.{same}
 use Rattle.paper.specs.Rows.{ClassRow, PriorityRow, SecurityRow, TradeRow, Tables}
 use Rattle.paper.specs.Valuation.{margined, accrualDay, securityOf, Valued, valued, valuedFrom, valuedIn, signedWorthsIn, netOf}
-use Rattle.paper.specs.Refusals.{classRules, priorityRules, securityRules, tradeRules}
+use Rattle.paper.specs.Refusals.{rulesOf, periodOf, classKind, priorityKind, securityKind, tradeKind}
 use Rattle.paper.specs.Offsetting.{Book, position, Netted, nettedIn, netsIn, flat, summed, opening, offsetAll, margin, total}
 use Rattle.paper.specs.Report.{marginOf, markIn}
 use Rattle.paper.specs.Tables.{hold, Admitted}
-use Rattle.paper.proofs.Lists.{Each, nil, cons, each-map, each-all, each-found, each-only, length-only, each-made, sum-most, set-most}
+use Rattle.paper.specs.Bounds.{PriorityFacts, BookFacts, mostWorth, mostMark, mostTrades, mostLine, mostNetCents, mostNet, mostPosition, mostShareProduct, mostMargin, mostInitial, mostMarkSum, mostTotal}
+use Rattle.paper.proofs.Lists.{each-map, each-all, each-found, each-only, length-only, each-made, sum-most, set-most}
 use Rattle.paper.proofs.Rounding.{share-below}
 use Rattle.paper.proofs.Sizes.{size-difference, size-signed-sum, above-within, below-within, rounded-at-most}
-use Rattle.paper.proofs.Rules.{DateFacts, ClassFacts, PriorityFacts, SecurityFacts, TradeFacts, date-facts, class-facts, priority-facts, security-facts, trade-facts, in-period, each-holds, classes-at-most, priorities-at-most, securities-at-most, trades-at-most}
+use Rattle.paper.proofs.Rules.{DateFacts, ClassFacts, SecurityFacts, TradeFacts, date-facts, class-facts, priority-facts, security-facts, trade-facts, in-period, each-holds, classes-at-most, priorities-at-most, securities-at-most, trades-at-most}
 use Rattle.paper.proofs.Offsetting.{rows-lower}
-use Rattle.paper.proofs.Bounds.{mostWorth, mostMark, mostTrades, mostLine, mostNetCents, mostNet, mostPosition, mostShareProduct, mostMargin, mostInitial, mostMarkSum, mostTotal, ValuedFacts, valued-facts}
+use Rattle.paper.proofs.Bounds.{ValuedFacts, valued-facts}
 
 -- ---- the margined trades
 
@@ -37,9 +38,9 @@ pub record TradeIn (today : Day) (ss : List SecurityRow) (t : TradeRow) : Type 0
 
 -- It holds where the row's rules do
 pub trade-in : (today : Day) (ss : List SecurityRow) (above : List TradeRow) (t : TradeRow)
-    → T (hold (tradeRules today ss above t)) → TradeIn today ss t
+    → T (hold (rulesOf (tradeKind today (periodOf ss)) above t)) → TradeIn today ss t
 trade-in today ss above t h =
-    record { facts = trade-facts today ss above t h; period = in-period today ss above t h }
+    record { facts = trade-facts today (periodOf ss) above t h; period = in-period today ss above t h }
 
 -- The margined trades of a table that begins at a line: each with its facts, and no more than there are trades
 pub valued-from : (today : Day) (ss : List SecurityRow) (at : Line) (ts : List TradeRow)
@@ -84,19 +85,19 @@ table-facts t a =
     let today = day (t .date) in
     record {
       date = date-facts (t .date) (a .0);
-      classes = each-holds classRules ClassFacts class-facts [] (t .classes) (a .1);
+      classes = each-holds classKind ClassFacts class-facts [] (t .classes) (a .1);
       priorities =
-          each-holds (priorityRules (t .classes)) PriorityFacts (priority-facts (t .classes)) [] (t .priorities) (a .2);
+          each-holds (priorityKind (t .classes)) PriorityFacts (priority-facts (t .classes)) [] (t .priorities) (a .2);
       securities =
-          each-holds (securityRules (t .classes)) SecurityFacts (security-facts (t .classes)) [] (t .securities) (a .3);
+          each-holds (securityKind (t .classes)) SecurityFacts (security-facts (t .classes)) [] (t .securities) (a .3);
       trades =
-          each-holds (tradeRules today (t .securities)) (TradeIn today (t .securities)) (trade-in today (t .securities)) []
+          each-holds (tradeKind today (periodOf (t .securities))) (TradeIn today (t .securities)) (trade-in today (t .securities)) []
           (t .trades)
           (a .4);
       few-classes = classes-at-most (t .classes) (a .1);
       few-priorities = priorities-at-most (t .classes) (t .priorities) (a .2);
       few-securities = securities-at-most (t .classes) (t .securities) (a .3);
-      few-trades = trades-at-most today (t .securities) (t .trades) (a .4);
+      few-trades = trades-at-most today (periodOf (t .securities)) (t .trades) (a .4);
     }
 
 -- What holds of the margined trades of a sheet: each has its facts, and they are at most 500
@@ -171,12 +172,7 @@ summed-most side within (n ∷ ns) (cons small rest) c =
     (omega arith)
     (omega (arith, within (n .net)))
 
--- Every position of a book is at most so large: whole units
-pub record BookFacts (b : Book) : Type 0 where
-  pub long : (n : Class) → position (b .long) n ≤ mostPosition
-  pub short : (n : Class) → position (b .short) n ≤ mostPosition
-
--- It holds of the opening positions of at most 200 such nets
+-- The opening positions of at most 200 such nets are within the table
 pub opening-most : (ns : List Netted) → length ns ≤ 200 → Each SmallNet ns → BookFacts (opening ns)
 opening-most ns few each =
     record {
@@ -184,7 +180,7 @@ opening-most ns few each =
       short = λ n. le-trans (summed-most belowZero below-within ns each n) (mul-le-mul-right mostNet few);
     }
 
--- It holds of what any rows of the priority list leave
+-- ... and so is what any rows of the priority list leave
 pub remaining-most : (os : List PriorityRow) (b : Book) → BookFacts b → BookFacts (offsetAll os b)
 remaining-most os b f =
     record {

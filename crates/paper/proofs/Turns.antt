@@ -11,8 +11,8 @@ use lib.ListN.{length, getD, take}
 use Rattle.paper.specs.Units.{Text, Fields, Number, Line, Date}
 use Rattle.paper.specs.Days.{day}
 use Rattle.paper.specs.Text.{ascii}
-use Rattle.paper.specs.Rows.{Tables, readDate, readClass, readPriority, readSecurity, readTrade}
-use Rattle.paper.specs.Refusals.{Outcome, refused, accepted, _>>=_, Rule, dateRules, classRules, priorityRules, securityRules, tradeRules}
+use Rattle.paper.specs.Rows.{Tables}
+use Rattle.paper.specs.Refusals.{Outcome, refused, accepted, _>>=_, RowKind, dateKind, classKind, priorityKind, securityKind, tradeKind, periodOf}
 use Rattle.paper.specs.Sheet.{Rest, begins, row, rowsFrom, section, dateRow, ended, readTables}
 use Rattle.paper.specs.Demands.{Smallest, rowRules, RowSmallest}
 use Rattle.paper.proofs.Smallest.{smallest-number}
@@ -50,28 +50,22 @@ further at (refused number line) h = omega (arith, h)
 further at (accepted a) h = tt
 
 -- The refusal of a row is for its line
-row-line : {R : Type 0} (letter : Text) (many : ℕ) (read : Fields → Option R) (rules : R → List Rule)
-    → RowSmallest letter many read rules → (at : Line) (fs : Fields) (number : Number) (line : Line)
-    → row letter many read rules at fs ≡ refused number line → line ≡ at
-row-line letter many read rules smallest at fs number line e =
-    subst (Smallest at (rowRules letter many read rules fs)) e (smallest at fs) .0
+row-line : {R : Type 0} (kind : RowKind R) → RowSmallest kind
+    → (above : List R) (at : Line) (fs : Fields) (number : Number) (line : Line) → row kind above at fs ≡ refused number line → line ≡ at
+row-line kind smallest above at fs number line e = subst (Smallest at (rowRules kind above fs)) e (smallest above at fs) .0
 
 -- A section, and what reads on behind it
-module _ {R A : Type 0} (letter : Text) (many : ℕ) (read : Fields → Option R) (rules : List R → R → List Rule)
-    (smallest : (above : List R) → RowSmallest letter many read (rules above))
+module _ {R A : Type 0} (kind : RowKind R) (smallest : RowSmallest kind)
     (next : List R × Rest → Outcome A) (later : (rs : List R) → InTurn (λ rest. next (rs, rest))) where
-  abbrev judge : List R → Line → Fields → Outcome R
-  judge above = row letter many read (rules above)
-
   abbrev onward : List R → Line → List Fields → Outcome A
-  onward above at fss = rowsFrom letter judge above at fss >>= next
+  onward above at fss = rowsFrom kind above at fss >>= next
 
   -- ... by whether a line has the letter, and by how it is judged
   abbrev stepped : List R → Line → Fields → List Fields → Bool → Outcome R → Outcome A
   stepped above at fs more b o =
       elim b [
         | false ↦ accepted (reverse above, (at, fs ∷ more))
-        | true ↦ elim o [ refused number line ↦ refused number line | accepted r ↦ rowsFrom letter judge (r ∷ above) (suc at) more ]
+        | true ↦ elim o [ refused number line ↦ refused number line | accepted r ↦ rowsFrom kind (r ∷ above) (suc at) more ]
       ]
       >>= next
 
@@ -79,13 +73,13 @@ module _ {R A : Type 0} (letter : Text) (many : ℕ) (read : Fields → Option R
   unfolding rowsFrom
   rows-from above at [] = later (reverse above) at [] .0
   rows-from above at (fs ∷ more) =
-      go (begins letter fs) (judge above at fs) refl (λ r. rows-from (r ∷ above) (suc at) more)
+      go (begins (kind .letter) fs) (row kind above at fs) refl (λ r. rows-from (r ∷ above) (suc at) more)
     where
-      go : (b : Bool) (o : Outcome R) → judge above at fs ≡ o → ((r : R) → From (suc at) (onward (r ∷ above) (suc at) more))
+      go : (b : Bool) (o : Outcome R) → row kind above at fs ≡ o → ((r : R) → From (suc at) (onward (r ∷ above) (suc at) more))
           → From at (stepped above at fs more b o)
       go false o e rest = later (reverse above) at (fs ∷ more) .0
       go true (refused number line) e rest =
-          omega (arith, row-line letter many read (rules above) (smallest above) at fs number line e)
+          omega (arith, row-line kind smallest above at fs number line e)
       go true (accepted r) e rest = further at (onward (r ∷ above) (suc at) more) (rest r)
 
   rows-cut : (above : List R) (at : Line) (fss : List Fields) (m : ℕ)
@@ -96,7 +90,7 @@ module _ {R A : Type 0} (letter : Text) (many : ℕ) (read : Fields → Option R
       (cut-all at (onward above at fss) (onward above at []) (rows-from above at fss) (later (reverse above) at [] .0))
   rows-cut above at [] (suc m) = cut-none (at + suc m) (onward above at [])
   rows-cut above at (fs ∷ more) (suc m) =
-      go (begins letter fs) (judge above at fs) (λ r. rows-cut (r ∷ above) (suc at) more m)
+      go (begins (kind .letter) fs) (row kind above at fs) (λ r. rows-cut (r ∷ above) (suc at) more m)
     where
       go : (b : Bool) (o : Outcome R)
           → ((r : R) → Cut (suc at + m) (onward (r ∷ above) (suc at) more) (onward (r ∷ above) (suc at) (take m more)))
@@ -106,7 +100,7 @@ module _ {R A : Type 0} (letter : Text) (many : ℕ) (read : Fields → Option R
       go true (accepted r) rest = rw (add-suc at m) (rw (suc-add at m) at (rest r))
 
   -- It goes by each line as it comes, where what reads on does
-  section-in-turn : InTurn (λ rest. section letter many read rules rest >>= next)
+  section-in-turn : InTurn (λ rest. section kind rest >>= next)
   section-in-turn at fss = (rows-from [] at fss, rows-cut [] at fss)
 
 -- So does the D row
@@ -115,7 +109,7 @@ date-in-turn : {A : Type 0} (next : Date × Rest → Outcome A) → ((date : Dat
 date-in-turn {A} next later at fss = (from fss, cut fss)
   where
     judge : Fields → Outcome Date
-    judge = row (ascii "D") 2 readDate dateRules at
+    judge = row dateKind [] at
 
     stepped : List Fields → Outcome Date → Outcome A
     stepped fss o = o >>= (λ date. accepted (date, (suc at, tail fss))) >>= next
@@ -125,7 +119,7 @@ date-in-turn {A} next later at fss = (from fss, cut fss)
       where
         go : (o : Outcome Date) → judge (getD fss 0 []) ≡ o → From at (stepped fss o)
         go (refused number line) e =
-            omega (arith, row-line (ascii "D") 2 readDate dateRules (smallest-number .2) at (getD fss 0 []) number line e)
+            omega (arith, row-line dateKind (smallest-number .2) [] at (getD fss 0 []) number line e)
         go (accepted date) e = further at (next (date, (suc at, tail fss))) (later date (suc at) (tail fss) .0)
 
     cut : (fss : List Fields) (m : ℕ) → Cut (at + m) (dateRow (at, fss) >>= next) (dateRow (at, take m fss) >>= next)
@@ -161,8 +155,8 @@ pub rows-in-turn : InTurn rowsRead
 rows-in-turn =
     let (room, head, dates, classes, priorities, securities, trades) = smallest-number in
     date-in-turn (λ x. readTables (x .0) (x .1)) λ date.
-    section-in-turn (ascii "C") 5 readClass classRules classes _ λ cs.
-    section-in-turn (ascii "O") 4 readPriority (priorityRules cs) (priorities cs) _ λ os.
-    section-in-turn (ascii "S") 10 readSecurity (securityRules cs) (securities cs) _ λ ss.
-    section-in-turn (ascii "T") 9 readTrade (tradeRules (day date) ss) (trades (day date) ss) _ λ ts.
+    section-in-turn classKind classes _ λ cs.
+    section-in-turn (priorityKind cs) (priorities cs) _ λ os.
+    section-in-turn (securityKind cs) (securities cs) _ λ ss.
+    section-in-turn (tradeKind (day date) (periodOf ss)) (trades (day date) (periodOf ss)) _ λ ts.
     end-in-turn (record { date = date; classes = cs; priorities = os; securities = ss; trades = ts })

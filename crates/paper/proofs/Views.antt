@@ -9,46 +9,43 @@ use lib.Seq.{drop-drop}
 use lib.ListN.{length, getD, take, drop, take-append-drop}
 use Rattle.paper.specs.Units.{Text, Fields, Date}
 use Rattle.paper.specs.Days.{day}
-use Rattle.paper.specs.Lists.{every, joinedUp}
+use Rattle.paper.specs.Lists.{every, joinedUp, Each}
 use Rattle.paper.specs.Text.{ascii, lines, lineOf}
 use Rattle.paper.specs.Rows.{Tables, writeDate, writeClass, writePriority, writeSecurity, writeTrade, readDate, readClass, readPriority, readSecurity, readTrade}
-use Rattle.paper.specs.Refusals.{accepted, judged, Rule, dateRules, classRules, priorityRules, securityRules, tradeRules}
+use Rattle.paper.specs.Refusals.{accepted, judged, RowKind, rulesOf, periodOf, dateKind, classKind, priorityKind, securityKind, tradeKind}
 use Rattle.paper.specs.Sheet.{Rest, headerRules, header, row, section, dateRow, endRules, readSheet}
 use Rattle.paper.specs.Tables.{rowsOf, sheetOf, hold, holdDown, Admitted}
-use Rattle.paper.proofs.Lists.{tests, left, together, both, every-step, every-append, every-weaker, each-every, Each}
+use Rattle.paper.proofs.Lists.{tests, left, together, both, every-step, every-append, every-weaker, each-every}
 use Rattle.paper.proofs.Order.{same-true}
 use Rattle.paper.proofs.Lines.{plain, filled, proper, lines-written, written-lines}
 use Rattle.paper.proofs.Outcomes.{accepted-one, both-accepted, judged-accepted}
-use Rattle.paper.proofs.Sections.{stops, stops-before, row-back, row-written, rows-back, section-written}
+use Rattle.paper.proofs.Sections.{Inverse, stops, stops-before, row-back, row-written, rows-back, section-written}
 use Rattle.paper.proofs.Rows.{date-inverse, class-inverse, priority-inverse, security-inverse, trade-inverse}
 
 -- ---- written tables are read back
 
 -- Rows that the rules admit are written as lines with fields that hold no mark, over the row kind
-rows-proper : {R : Type 0} (write : R → Fields) (rules : List R → R → List Rule)
-    → ((r : R) → filled (write r) ≡ true)
-    → ((above : List R) (r : R) → T (hold (rules above r)) → Each (λ f. every plain f ≡ true) (write r))
-    → (above rs : List R) → T (holdDown rules above rs) → every proper (map write rs) ≡ true
-rows-proper write rules some each above [] h = refl
-rows-proper write rules some each above (r ∷ rs) h =
-    let here : T (hold (rules above r)) = search tests in
-    let below : T (holdDown rules (r ∷ above) rs) = search tests in
-    rw (every-step proper (write r) (map write rs), some r, each-every (every plain) (each above r here))
-    (rows-proper write rules some each (r ∷ above) rs below)
+rows-proper : {R : Type 0} (kind : RowKind R) → Inverse kind → ((r : R) → filled (kind .write r) ≡ true)
+    → (above rs : List R) → T (holdDown kind above rs) → every proper (map (kind .write) rs) ≡ true
+rows-proper kind inverse some above [] h = refl
+rows-proper kind inverse some above (r ∷ rs) h =
+    let here : T (hold (rulesOf kind above r)) = search tests in
+    let below : T (holdDown kind (r ∷ above) rs) = search tests in
+    rw (every-step proper (kind .write r) (map (kind .write) rs), some r, each-every (every plain) (inverse .plain-fields above r here))
+    (rows-proper kind inverse some (r ∷ above) rs below)
 
 tables-proper : (t : Tables) → Admitted t → every proper (rowsOf t) ≡ true
 tables-proper t (d, c, o, s, r) =
     every-append proper (map writeDate (t .date ∷ []))
     (map writeClass (t .classes) ++ (map writePriority (t .priorities) ++ (map writeSecurity (t .securities) ++ map writeTrade (t .trades))))
-    (rows-proper writeDate (λ above. dateRules) (λ d. refl) (date-inverse .plain-fields) [] (t .date ∷ []) (together (hold (dateRules (t .date))) true d tt))
+    (rows-proper dateKind date-inverse (λ d. refl) [] (t .date ∷ []) (together (hold (rulesOf dateKind [] (t .date))) true d tt))
     (every-append proper (map writeClass (t .classes)) (map writePriority (t .priorities) ++ (map writeSecurity (t .securities) ++ map writeTrade (t .trades)))
-    (rows-proper writeClass classRules (λ c. refl) (class-inverse .plain-fields) [] (t .classes) c)
+    (rows-proper classKind class-inverse (λ c. refl) [] (t .classes) c)
     (every-append proper (map writePriority (t .priorities)) (map writeSecurity (t .securities) ++ map writeTrade (t .trades))
-    (rows-proper writePriority (priorityRules (t .classes)) (λ o. refl) (priority-inverse (t .classes) .plain-fields) [] (t .priorities) o)
+    (rows-proper (priorityKind (t .classes)) (priority-inverse (t .classes)) (λ o. refl) [] (t .priorities) o)
     (every-append proper (map writeSecurity (t .securities)) (map writeTrade (t .trades))
-    (rows-proper writeSecurity (securityRules (t .classes)) (λ s. refl) (security-inverse (t .classes) .plain-fields) [] (t .securities) s)
-    (rows-proper writeTrade (tradeRules (day (t .date)) (t .securities)) (λ r. refl)
-    (trade-inverse (day (t .date)) (t .securities) .plain-fields) [] (t .trades) r))))
+    (rows-proper (securityKind (t .classes)) (security-inverse (t .classes)) (λ s. refl) [] (t .securities) s)
+    (rows-proper (tradeKind (day (t .date)) (periodOf (t .securities))) (trade-inverse (day (t .date)) (periodOf (t .securities))) (λ r. refl) [] (t .trades) r))))
 
 -- The rows of tables from each table on, down to no more lines
 module _ (t : Tables) where
@@ -89,13 +86,13 @@ written-read t (d, c, o, s, r) =
     let at = 3 + length (t .classes) in
     rw (
       lines-written (rowsOf t) (tables-proper t (d, c, o, s, r)) ∙ in-order t,
-      row-back (ascii "D") 2 readDate writeDate (λ above. dateRules) date-inverse [] 2 (t .date) d,
-      rows-back (ascii "C") 5 readClass writeClass classRules class-inverse [] (t .classes) 3 (fromPriorities t) c (no-class t),
-      rows-back (ascii "O") 4 readPriority writePriority (priorityRules (t .classes)) (priority-inverse (t .classes)) [] (t .priorities)
+      row-back dateKind date-inverse [] 2 (t .date) d,
+      rows-back classKind class-inverse [] (t .classes) 3 (fromPriorities t) c (no-class t),
+      rows-back (priorityKind (t .classes)) (priority-inverse (t .classes)) [] (t .priorities)
           at (fromSecurities t) o (no-priority t),
-      rows-back (ascii "S") 10 readSecurity writeSecurity (securityRules (t .classes)) (security-inverse (t .classes)) [] (t .securities)
+      rows-back (securityKind (t .classes)) (security-inverse (t .classes)) [] (t .securities)
           (at + length (t .priorities)) (fromTrades t) s (no-security t),
-      rows-back (ascii "T") 9 readTrade writeTrade (tradeRules (day (t .date)) (t .securities)) (trade-inverse (day (t .date)) (t .securities))
+      rows-back (tradeKind (day (t .date)) (periodOf (t .securities))) (trade-inverse (day (t .date)) (periodOf (t .securities)))
           [] (t .trades) (at + length (t .priorities) + length (t .securities)) [] r refl,
     )
 
@@ -116,12 +113,12 @@ header-written sheet rest e =
 
 -- Its D row
 pub date-written : (rest : Rest) (date : Date) (more : Rest) → dateRow rest ≡ accepted (date, more)
-    → T (hold (dateRules date)) × (rest .1 ≡ writeDate date ∷ more .1) × (more .0 ≡ suc (rest .0))
+    → T (hold (rulesOf dateKind [] date)) × (rest .1 ≡ writeDate date ∷ more .1) × (more .0 ≡ suc (rest .0))
 date-written rest date more e =
-    both-accepted (row (ascii "D") 2 readDate dateRules (rest .0) (getD (rest .1) 0 [])) _ (date, more) e λ d k l.
+    both-accepted (row dateKind [] (rest .0) (getD (rest .1) 0 [])) _ (date, more) e λ d k l.
     let one = accepted-one l in
     let dated : d ≡ date = ap (λ x. x .0) one in
-    let written = row-written (ascii "D") 2 readDate writeDate (λ above. dateRules) date-inverse [] (rest .0) (getD (rest .1) 0 []) d k in
+    let written = row-written dateKind date-inverse [] (rest .0) (getD (rest .1) 0 []) d k in
     let first : writeDate date ≡ getD (rest .1) 0 [] = ap writeDate (sym dated) ∙ written .0 in
     let behind : tail (rest .1) ≡ more .1 = ap (λ x. x .1 .1) one in
     (rw dated at (written .1), there (rest .1) first ∙ ap (λ (fss : List Fields). writeDate date ∷ fss) behind, sym (ap (λ x. x .1 .0) one))
@@ -144,21 +141,21 @@ unfolding readSheet sheetOf
 read-written sheet t e =
     both-accepted (header sheet) _ t e λ rest e1 k1.
     both-accepted (dateRow rest) _ t k1 λ dated e2 k2.
-    both-accepted (section (ascii "C") 5 readClass classRules (dated .1)) _ t k2 λ classed e3 k3.
-    both-accepted (section (ascii "O") 4 readPriority (priorityRules (classed .0)) (classed .1)) _ t k3 λ ranked e4 k4.
-    both-accepted (section (ascii "S") 10 readSecurity (securityRules (classed .0)) (ranked .1)) _ t k4 λ secured e5 k5.
-    both-accepted (section (ascii "T") 9 readTrade (tradeRules (day (dated .0)) (secured .0)) (secured .1)) _ t k5 λ traded e6 k6.
+    both-accepted (section classKind (dated .1)) _ t k2 λ classed e3 k3.
+    both-accepted (section (priorityKind (classed .0)) (classed .1)) _ t k3 λ ranked e4 k4.
+    both-accepted (section (securityKind (classed .0)) (ranked .1)) _ t k4 λ secured e5 k5.
+    both-accepted (section (tradeKind (day (dated .0)) (periodOf (secured .0))) (secured .1)) _ t k5 λ traded e6 k6.
     let h = header-written sheet rest e1 in
     let d = date-written rest (dated .0) (dated .1) e2 in
-    let c = section-written (ascii "C") 5 readClass writeClass classRules class-inverse (dated .1) (classed .0) (classed .1) e3 in
-    let o = section-written (ascii "O") 4 readPriority writePriority (priorityRules (classed .0)) (priority-inverse (classed .0))
+    let c = section-written classKind class-inverse (dated .1) (classed .0) (classed .1) e3 in
+    let o = section-written (priorityKind (classed .0)) (priority-inverse (classed .0))
     (classed .1) (ranked .0) (ranked .1) e4
     in
-    let s = section-written (ascii "S") 10 readSecurity writeSecurity (securityRules (classed .0)) (security-inverse (classed .0))
+    let s = section-written (securityKind (classed .0)) (security-inverse (classed .0))
     (ranked .1) (secured .0) (secured .1) e5
     in
-    let r = section-written (ascii "T") 9 readTrade writeTrade (tradeRules (day (dated .0)) (secured .0))
-    (trade-inverse (day (dated .0)) (secured .0)) (secured .1) (traded .0) (traded .1) e6
+    let r = section-written (tradeKind (day (dated .0)) (periodOf (secured .0)))
+    (trade-inverse (day (dated .0)) (periodOf (secured .0))) (secured .1) (traded .0) (traded .1) e6
     in
     let u : Tables =
     record { date = dated .0; classes = classed .0; priorities = ranked .0; securities = secured .0; trades = traded .0 }

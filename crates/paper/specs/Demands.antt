@@ -7,11 +7,11 @@ use mathlib.Core.Option.{Option, none, some}
 use mathlib.Core.Path.{_≡_}
 use lib.Dec.{T, eqb, ltb}
 use lib.ListN.{length, drop}
-use Rattle.paper.specs.Units.{Text, Fields, Room, Number, Line, Day, Class}
+use Rattle.paper.specs.Units.{Text, Fields, Room, Number, Line, Day, Class, Code}
 use Rattle.paper.specs.Lists.{sum, every, only, firstThat, given}
 use Rattle.paper.specs.Text.{ascii, LF}
-use Rattle.paper.specs.Rows.{ClassRow, PriorityRow, SecurityRow, TradeRow, Tables, readDate, readClass, readPriority, readSecurity, readTrade}
-use Rattle.paper.specs.Refusals.{Outcome, Rule, judged, isFactor, refused, accepted, dateRules, classRules, priorityRules, securityRules, tradeRules}
+use Rattle.paper.specs.Rows.{ClassRow, PriorityRow, Tables}
+use Rattle.paper.specs.Refusals.{Outcome, Rule, judged, isFactor, refused, accepted, RowKind, rulesOf, Period, dateKind, classKind, priorityKind, securityKind, tradeKind}
 use Rattle.paper.specs.Sheet.{begins, row, headerRules, header}
 use Rattle.paper.specs.Offsetting.{Book, position, taken, offsetRow, offsetAll}
 use Rattle.paper.specs.Report.{reportOf}
@@ -54,27 +54,27 @@ Smallest at rules (refused number line) =
 Smallest at rules (accepted a) = (n : Number) → breaks n rules ≡ false
 
 -- All rules of a row: 5 its letter and number of fields, 6 the form of its fields, then those on the row that is read
-abbrev pub rowRules : {R : Type 0} → Text → ℕ → (Fields → Option R) → (R → List Rule) → Fields → List Rule
-rowRules letter many read rules fs =
-    (5, begins letter fs && eqb (length fs) many)
-    ∷ (6, given (read fs))
-    ∷ elim (read fs) [ none ↦ [] | some r ↦ rules r ]
+abbrev pub rowRules : {R : Type 0} → RowKind R → List R → Fields → List Rule
+rowRules kind above fs =
+    (5, begins (kind .letter) fs && eqb (length fs) (kind .many))
+    ∷ (6, given (kind .read fs))
+    ∷ elim (kind .read fs) [ none ↦ [] | some r ↦ rulesOf kind above r ]
 
--- A row is judged by the smallest number
-abbrev pub RowSmallest : {R : Type 0} → Text → ℕ → (Fields → Option R) → (R → List Rule) → Type 0
-RowSmallest letter many read rules =
-    (at : Line) (fs : Fields) → Smallest at (rowRules letter many read rules fs) (row letter many read rules at fs)
+-- A row is judged by the smallest number, whatever stands above it
+abbrev pub RowSmallest : {R : Type 0} → RowKind R → Type 0
+RowSmallest {R} kind =
+    (above : List R) (at : Line) (fs : Fields) → Smallest at (rowRules kind above fs) (row kind above at fs)
 
 -- Demand 1, of one line: on it the smallest number. Buffer and sheet, line 1, and each row kind
 abbrev pub SmallestNumber : Type 0
 SmallestNumber =
     ((room : Room) (sheet : Text) → Smallest 0 (roomRules room sheet) (judged 0 sheet (roomRules room sheet)))
     × ((sheet : Text) → Smallest 1 (headerRules sheet) (header sheet))
-    × RowSmallest (ascii "D") 2 readDate dateRules
-    × ((above : List ClassRow) → RowSmallest (ascii "C") 5 readClass (classRules above))
-    × ((cs : List ClassRow) (above : List PriorityRow) → RowSmallest (ascii "O") 4 readPriority (priorityRules cs above))
-    × ((cs : List ClassRow) (above : List SecurityRow) → RowSmallest (ascii "S") 10 readSecurity (securityRules cs above))
-    × ((today : Day) (ss : List SecurityRow) (above : List TradeRow) → RowSmallest (ascii "T") 9 readTrade (tradeRules today ss above))
+    × RowSmallest dateKind
+    × RowSmallest classKind
+    × ((cs : List ClassRow) → RowSmallest (priorityKind cs))
+    × ((cs : List ClassRow) → RowSmallest (securityKind cs))
+    × ((today : Day) (periods : Code → Option Period) → RowSmallest (tradeKind today periods))
 
 -- The first lines of a sheet, so many of them, each with its LF
 abbrev pub firstLines : ℕ → Text → Text

@@ -12,6 +12,7 @@ pub mod Valuation
 pub mod Refusals
 pub mod Sheet
 pub mod Offsetting
+pub mod Bounds
 pub mod Report
 pub mod Answer
 pub mod Tables

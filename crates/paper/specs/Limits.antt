@@ -17,7 +17,7 @@ use Rattle.paper.specs.Days.{day, isDay, isOpen, workingAfter}
 use Rattle.paper.specs.Text.{ascii, LF, semicolon, pieces, lines, parted, isDigit, isLetter, numberIn, dateIn, hasCodeForm, hasCheckDigit, isCode, digits}
 use Rattle.paper.specs.Rows.{Kind, government, corporate, inflation, floating, cash, seller, ClassRow, PriorityRow, SecurityRow, TradeRow, kindIn, readPriority}
 use Rattle.paper.specs.Valuation.{valuedFrom, valuedIn}
-use Rattle.paper.specs.Refusals.{Outcome, refused, accepted, Rule, judged, isDuration, classRules, priorityRules, securityRules, tradeRules}
+use Rattle.paper.specs.Refusals.{Outcome, refused, accepted, Rule, judged, isDuration, rulesOf, periodOf, classKind, priorityKind, securityKind, tradeKind}
 use Rattle.paper.specs.Sheet.{rowsFrom, readSheet}
 use Rattle.paper.specs.Offsetting.{position, summed, offsetRow, offsetAll, margin, total}
 use Rattle.paper.specs.Report.{classLine, currencyLines, reportOf}
@@ -78,7 +78,7 @@ bond code currency =
 abbrev below : ℕ → String → Number
 below many currency =
     let above : List String = take many ("AAA" ∷ "BBB" ∷ "CCC" ∷ "DDD" ∷ "EEE" ∷ "FFF" ∷ "GGG" ∷ "HHH" ∷ []) in
-    first (securityRules classes (map (bond "AA0000000014") above) (bond "ZZ0000000016" currency))
+    first (rulesOf (securityKind classes) (map (bond "AA0000000014") above) (bond "ZZ0000000016" currency))
 
 -- A T row
 abbrev sale : TradeRow
@@ -106,7 +106,7 @@ Limits =
     × (line 3 2 ("G" ∷ "C" ∷ "I" ∷ "F" ∷ "" ∷ []) ≡ ok ∷ ok ∷ 6 ∷ 6 ∷ 6 ∷ [])
     × (line 3 3 ("" ∷ "0" ∷ "1" ∷ "1000000" ∷ "1000001" ∷ []) ≡ 6 ∷ 6 ∷ ok ∷ ok ∷ 6 ∷ [])
     × (line 4 3 ("32500" ∷ "32501" ∷ []) ≡ 9 ∷ ok ∷ [])
-    × (map (λ c. first (classRules classes c)) (class 3 government (some 5) ∷ class 3 government (some 6) ∷ class 2 government (some 6) ∷ []) ≡ 9 ∷ ok ∷ 9 ∷ [])
+    × (map (λ c. first (rulesOf classKind classes c)) (class 3 government (some 5) ∷ class 3 government (some 6) ∷ class 2 government (some 6) ∷ []) ≡ 9 ∷ ok ∷ 9 ∷ [])
     × (line 3 4 ("" ∷ "0" ∷ "10000" ∷ "10001" ∷ []) ≡ 6 ∷ ok ∷ ok ∷ 6 ∷ [])
     -- O: class; class, both on the sheet; factor 0..10,000
     × (line 6 1 ("0" ∷ "5" ∷ "6" ∷ "7" ∷ "8" ∷ "41" ∷ []) ≡ 6 ∷ 10 ∷ ok ∷ ok ∷ 10 ∷ 6 ∷ [])
@@ -126,7 +126,7 @@ Limits =
     -- Border and duration are blank exactly for kinds I and F, which have at most one class each
     × (map (λ kind. isDuration kind none) (government ∷ corporate ∷ inflation ∷ floating ∷ []) ≡ false ∷ false ∷ true ∷ true ∷ [])
     × (map (λ kind. isDuration kind (some 1)) (government ∷ corporate ∷ inflation ∷ floating ∷ []) ≡ true ∷ true ∷ false ∷ false ∷ [])
-    × (map (λ kind. first (classRules (class 1 inflation none ∷ []) (class 2 kind none))) (inflation ∷ floating ∷ []) ≡ 9 ∷ ok ∷ [])
+    × (map (λ kind. first (rulesOf classKind (class 1 inflation none ∷ []) (class 2 kind none))) (inflation ∷ floating ∷ []) ≡ 9 ∷ ok ∷ [])
     -- T: R or C; S or P; a code of the sheet; nominal 1..100,000,000; amount 1..30,000,000,000; a repo's last date 1 to 730
     -- days after 20190603; rate -200,000..200,000; both blank for cash
     × (line 9 1 ("R" ∷ "C" ∷ "" ∷ []) ≡ ok ∷ 6 ∷ 6 ∷ []) × (line 9 2 ("S" ∷ "P" ∷ "" ∷ []) ≡ ok ∷ ok ∷ 6 ∷ [])
@@ -140,11 +140,11 @@ Limits =
     × (map (λ at. line at 0 ("X" ∷ [])) (2 ∷ 3 ∷ 5 ∷ 7 ∷ 9 ∷ []) ≡ replicate 5 (5 ∷ []))
     × (map (λ at. line at 1 ("6;6" ∷ [])) (2 ∷ 3 ∷ 5 ∷ 7 ∷ 9 ∷ []) ≡ replicate 5 (5 ∷ []))
     -- Rows: at most 40 C, 200 O, 200 S, 500 T; at most 8 currencies
-    × (map (λ above. first (classRules (replicate above (class 1 government (some 5))) (class 40 corporate (some 5)))) (39 ∷ 40 ∷ []) ≡ ok ∷ 8 ∷ [])
-    × (map (λ above. first (priorityRules classes (replicate above priority) priority)) (199 ∷ 200 ∷ []) ≡ ok ∷ 8 ∷ [])
-    × (map (λ above. first (securityRules classes (replicate above (bond "AA0000000014" "EUR")) (bond "ZZ0000000016" "EUR"))) (199 ∷ 200 ∷ [])
+    × (map (λ above. first (rulesOf classKind (replicate above (class 1 government (some 5))) (class 40 corporate (some 5)))) (39 ∷ 40 ∷ []) ≡ ok ∷ 8 ∷ [])
+    × (map (λ above. first (rulesOf (priorityKind classes) (replicate above priority) priority)) (199 ∷ 200 ∷ []) ≡ ok ∷ 8 ∷ [])
+    × (map (λ above. first (rulesOf (securityKind classes) (replicate above (bond "AA0000000014" "EUR")) (bond "ZZ0000000016" "EUR"))) (199 ∷ 200 ∷ [])
     ≡ ok ∷ 8 ∷ [])
-    × (map (λ above. first (tradeRules (day 20_190_612) (bond "ZZ0000000016" "EUR" ∷ []) (replicate above sale) sale)) (499 ∷ 500 ∷ []) ≡ ok ∷ 8 ∷ [])
+    × (map (λ above. first (rulesOf (tradeKind (day 20_190_612) (periodOf (bond "ZZ0000000016" "EUR" ∷ []))) (replicate above sale) sale)) (499 ∷ 500 ∷ []) ≡ ok ∷ 8 ∷ [])
     × (below 7 "EUR" ≡ ok) × (below 8 "EUR" ≡ 8) × (below 8 "AAA" ≡ ok)
     -- Accrual at or after the previous coupon date, before the next: the repo's on 20190613, a day after calculation; cash on 20190614
     × (seenOn 9 7 8 ("20190613" ∷ "20190614" ∷ []) ≡ ok ∷ 12 ∷ []) × (seenOn 9 7 9 ("20190613" ∷ "20190614" ∷ []) ≡ 12 ∷ ok ∷ [])

@@ -54,3 +54,8 @@ infixl 20 _>>=_
 abbrev pub _>>=_ : {A B : Type 0} → Option A → (A → Option B) → Option B
 none >>= next = none
 some a >>= next = next a
+
+-- Something is true of each entry
+pub data Each {A : Type 0} (P : A → Type 0) : List A → Type 0 where
+  nil : Each P []
+  cons : {a : A} {rest : List A} → P a → Each P rest → Each P (a ∷ rest)

@@ -1,6 +1,6 @@
 -- A sheet, read (01, "The sheet", and the order of refusals): header, D row, then the sections C, O, S and T; and with
 -- it the refusals 3 to 5. The earliest line that fails is refused, by its smallest number.
-use Prim.Native.Nat.{ℕ, suc}
+use Prim.Native.Nat.{suc}
 use mathlib.Core.Bool.{Bool, true, false, _&&_}
 use mathlib.Core.List.{List, [], _∷_, reverse, tail}
 use mathlib.Core.Option.{Option, none, some}
@@ -9,8 +9,8 @@ use lib.ListN.{length, getD, take, drop}
 use Rattle.paper.specs.Units.{Text, Fields, Line, Date}
 use Rattle.paper.specs.Days.{day}
 use Rattle.paper.specs.Text.{ascii, lines, same}
-use Rattle.paper.specs.Rows.{Tables, field, readDate, readClass, readPriority, readSecurity, readTrade}
-use Rattle.paper.specs.Refusals.{Outcome, refused, accepted, _>>=_, Rule, judged, dateRules, classRules, priorityRules, securityRules, tradeRules}
+use Rattle.paper.specs.Rows.{Tables, field}
+use Rattle.paper.specs.Refusals.{Outcome, refused, accepted, _>>=_, Rule, judged, RowKind, rulesOf, dateKind, classKind, priorityKind, securityKind, tradeKind, periodOf}
 
 -- The lines that are not read yet, with the number of the first
 abbrev pub Rest : Type 0
@@ -28,35 +28,34 @@ header sheet = judged 1 (2, lines (drop 6 sheet)) (headerRules sheet)
 abbrev pub begins : Text → Fields → Bool
 begins letter fs = same letter (field 0 fs)
 
--- A row: 5 it has its letter and so many fields with it; 6 each field has its form; then the rules
-abbrev pub row : {R : Type 0} → Text → ℕ → (Fields → Option R) → (R → List Rule) → Line → Fields → Outcome R
-row letter many read rules at fs =
-    elim (begins letter fs && eqb (length fs) many) [
+-- A row with those above it: 5 it has its letter and so many fields with it; 6 each field has its form; then the rules
+abbrev pub row : {R : Type 0} → RowKind R → List R → Line → Fields → Outcome R
+row kind above at fs =
+    elim (begins (kind .letter) fs && eqb (length fs) (kind .many)) [
       | false ↦ refused 5 at
-      | true ↦ elim (read fs) [ none ↦ refused 6 at | some r ↦ judged at r (rules r) ]
+      | true ↦ elim (kind .read fs) [ none ↦ refused 6 at | some r ↦ judged at r (rulesOf kind above r) ]
     ]
 
 -- Rows from a line on, each judged by those above it, down to the first line with another letter
-unfoldable pub rowsFrom : {R : Type 0} → Text → (List R → Line → Fields → Outcome R) → List R → Line → List Fields → Outcome (List R × Rest)
-rowsFrom letter judge above at [] = accepted (reverse above, (at, []))
-rowsFrom letter judge above at (fs ∷ more) =
-    elim (begins letter fs) [
+unfoldable pub rowsFrom : {R : Type 0} → RowKind R → List R → Line → List Fields → Outcome (List R × Rest)
+rowsFrom kind above at [] = accepted (reverse above, (at, []))
+rowsFrom kind above at (fs ∷ more) =
+    elim (begins (kind .letter) fs) [
       | false ↦ accepted (reverse above, (at, fs ∷ more))
-      | true ↦ elim (judge above at fs) [
+      | true ↦ elim (row kind above at fs) [
         | refused number line ↦ refused number line
-        | accepted r ↦ rowsFrom letter judge (r ∷ above) (suc at) more
+        | accepted r ↦ rowsFrom kind (r ∷ above) (suc at) more
       ]
     ]
 
--- A section: the rows of a letter, each of so many fields, with how they are read and their rules
-abbrev pub section : {R : Type 0} → Text → ℕ → (Fields → Option R) → (List R → R → List Rule) → Rest → Outcome (List R × Rest)
-section letter many read rules rest =
-    rowsFrom letter (λ above. row letter many read (rules above)) [] (rest .0) (rest .1)
+-- A section: the rows of a kind, from the first line that is not read yet
+abbrev pub section : {R : Type 0} → RowKind R → Rest → Outcome (List R × Rest)
+section kind rest = rowsFrom kind [] (rest .0) (rest .1)
 
 -- The D row is the first line not read yet; where there is none it is missing, and refused as a line with no fields
 abbrev pub dateRow : Rest → Outcome (Date × Rest)
 dateRow rest =
-    row (ascii "D") 2 readDate dateRules (rest .0) (getD (rest .1) 0 [])
+    row dateKind [] (rest .0) (getD (rest .1) 0 [])
     >>= λ date. accepted (date, (suc (rest .0), tail (rest .1)))
 
 -- 5 no line remains: one would have an unknown letter, be out of its section or lack its LF
@@ -70,10 +69,10 @@ ended a rest = judged (rest .0) a (endRules rest)
 -- The tables behind the D row: the sections in their order, and no line behind them
 abbrev pub readTables : Date → Rest → Outcome Tables
 readTables date rows = do
-  (cs, rows) ← section (ascii "C") 5 readClass classRules rows
-  (os, rows) ← section (ascii "O") 4 readPriority (priorityRules cs) rows
-  (ss, rows) ← section (ascii "S") 10 readSecurity (securityRules cs) rows
-  (ts, rows) ← section (ascii "T") 9 readTrade (tradeRules (day date) ss) rows
+  (cs, rows) ← section classKind rows
+  (os, rows) ← section (priorityKind cs) rows
+  (ss, rows) ← section (securityKind cs) rows
+  (ts, rows) ← section (tradeKind (day date) (periodOf ss)) rows
   ended (record { date = date; classes = cs; priorities = os; securities = ss; trades = ts }) rows
 
 -- The tables of a sheet, or its refusal

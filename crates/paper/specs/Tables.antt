@@ -8,7 +8,7 @@ use Rattle.paper.specs.Days.{day}
 use Rattle.paper.specs.Text.{ascii, lineOf}
 use Rattle.paper.specs.Lists.{joinedUp}
 use Rattle.paper.specs.Rows.{Tables, writeDate, writeClass, writePriority, writeSecurity, writeTrade}
-use Rattle.paper.specs.Refusals.{Rule, dateRules, classRules, priorityRules, securityRules, tradeRules}
+use Rattle.paper.specs.Refusals.{Rule, RowKind, rulesOf, dateKind, classKind, priorityKind, securityKind, tradeKind, periodOf}
 
 -- The rows of tables in the order of a sheet, each as its fields
 abbrev pub rowsOf : Tables → List Fields
@@ -27,15 +27,15 @@ hold [] = true
 hold (rule ∷ rules) = rule .1 && hold rules
 
 -- Whether the rules hold for each row of a table, with the rows above it, the nearest first
-abbrev pub holdDown : {R : Type 0} → (List R → R → List Rule) → List R → List R → Bool
-holdDown rules above [] = true
-holdDown rules above (r ∷ rs) = hold (rules above r) && holdDown rules (r ∷ above) rs
+abbrev pub holdDown : {R : Type 0} → RowKind R → List R → List R → Bool
+holdDown kind above [] = true
+holdDown kind above (r ∷ rs) = hold (rulesOf kind above r) && holdDown kind (r ∷ above) rs
 
 -- The rules that admit tables: those of every row, from 6 to 12
 abbrev pub Admitted : Tables → Type 0
 Admitted t =
-    T (hold (dateRules (t .date)))
-    × T (holdDown classRules [] (t .classes))
-    × T (holdDown (priorityRules (t .classes)) [] (t .priorities))
-    × T (holdDown (securityRules (t .classes)) [] (t .securities))
-    × T (holdDown (tradeRules (day (t .date)) (t .securities)) [] (t .trades))
+    T (hold (rulesOf dateKind [] (t .date)))
+    × T (holdDown classKind [] (t .classes))
+    × T (holdDown (priorityKind (t .classes)) [] (t .priorities))
+    × T (holdDown (securityKind (t .classes)) [] (t .securities))
+    × T (holdDown (tradeKind (day (t .date)) (periodOf (t .securities))) [] (t .trades))

@@ -8,10 +8,9 @@ use mathlib.Core.Path.{_≡_, refl, sym, ap, _∙_}
 use lib.ListN.{length, length-append, take-append-drop}
 use Rattle.paper.specs.Units.{Text}
 use Rattle.paper.specs.Lists.{joinedUp}
-use Rattle.fields.specs.Places.{Place}
-use Rattle.lines.specs.Written.{Wrote}
-use Rattle.lines.proofs.Written.{written-length, room, joined}
-use Rattle.margin.specs.Figures.{fromRank}
+use Rattle.lines.specs.Written.{Place, Wrote}
+use Rattle.lines.proofs.Written.{Parts, written-length, room, joined}
+use Rattle.margin.specs.Openings.{fromRank}
 use Rattle.margin.proofs.Forwards.{ranks-more}
 
 -- A text that fits leaves a buffer as long as it was
@@ -34,12 +33,13 @@ module _ (text : ℕ → Text) where
   texts many = joinedUp (fromRank text many 0)
 
   -- Those of a rank more end with its text
-  texts-more : (i : ℕ) → texts (i + 1) ≡ texts i ++ text i
+  texts-more : (i : ℕ) → Parts (texts (i + 1)) (texts i) (text i)
   texts-more i =
-      ap texts (add-one i)
-      ∙ ap joinedUp (ranks-more text i 0)
-      ∙ joined-last (fromRank text i 0) (text (0 + i))
-      ∙ ap (λ (n : ℕ). texts i ++ text n) (zero-add i)
+      record {
+        are =
+            ap texts (add-one i) ∙ ap joinedUp (ranks-more text i 0) ∙ joined-last (fromRank text i 0) (text (0 + i))
+            ∙ ap (λ (n : ℕ). texts i ++ text n) (zero-add i);
+      }
 
   -- Those of more ranks are at least as long
   texts-longer : (i many rank : ℕ) → i ≤ many
@@ -51,13 +51,13 @@ module _ (text : ℕ → Text) where
 
   module _ (many : ℕ) (from : Place) (b : Text) (fits : from + length (texts many) ≤ length b) (i : ℕ) (less : i < many) {at : Place} {now : Text} (w : Wrote (texts i) from b at now) where
     -- The texts so far and the next fit
-    next-fits : from + length (texts i ++ text i) ≤ length b
-    next-fits = omega (arith, ap length (texts-more i), texts-longer (i + 1) many 0 (omega arith))
+    next-fits : from + length (texts (i + 1)) ≤ length b
+    next-fits = omega (arith, texts-longer (i + 1) many 0 (omega arith))
 
     -- So in a turn the next has room
     pub turn-room : at + length (text i) ≤ length now
-    turn-room = room (texts i) (text i) from b next-fits w
+    turn-room = room (texts-more i) from b next-fits w
 
     -- And once it is written, the texts of a rank more are
     pub turn : {next : Place} {after : Text} → Wrote (text i) at now next after → Wrote (texts (i + 1)) from b next after
-    turn v = rw (texts-more i) (joined (texts i) (text i) from b next-fits w v)
+    turn v = joined (texts-more i) from b next-fits w v

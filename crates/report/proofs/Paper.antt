@@ -1,196 +1,193 @@
--- The report's text of an accepted sheet, from its tables and figures as the code holds them, is the paper's.
-use Prim.Native.Nat.{ℕ, zero, suc, _+_, _<_}
-use native.Mathlib.Nat.{add-suc, add-zero}
+-- The report's text of admitted tables, from the tables and figures as the code holds them, is the paper's, and it can be written.
+use Prim.Native.Nat.{ℕ, suc, _+_, _≤_, _<_, _^_}
 use native.Mathlib.Omega.{arith}
 use mathlib.Core.Bool.{Bool, true, false}
-use mathlib.Core.List.{List, [], _∷_, _++_, map}
-use mathlib.Core.Option.{none}
-use mathlib.Core.Path.{_≡_, refl, sym, ap, ap₂, _∙_}
-use lib.IntN.{pos}
-use lib.ListN.{length, getD, take, drop, length-map, drop-of-length-le}
-use lib.Seq.{getD-take, drop-cons}
-use Rattle.paper.specs.Units.{Text, Line, Day, Currency, Whole}
+use mathlib.Core.List.{List, _∷_, _++_, map}
+use mathlib.Core.Path.{_≡_, refl, ap, ap₂, _∙_}
+use lib.IntN.{pos, natAbs}
+use lib.ListN.{length, getD}
+use Rattle.paper.specs.Units.{Text, Line, Currency, SignedCents}
 use Rattle.paper.specs.Days.{day}
-use Rattle.paper.specs.Lists.{joinedUp}
-use Rattle.paper.specs.Rows.{cash, seller, government, ClassRow, SecurityRow, TradeRow, Tables}
+use Rattle.paper.specs.Lists.{joinedUp, Each, nil, cons}
+use Rattle.paper.specs.Text.{isCurrency}
+use Rattle.paper.specs.Rows as paper
+use Rattle.paper.specs.Rows.{SecurityRow, TradeRow, Tables}
 use Rattle.paper.specs.Currencies.{currencies}
-use Rattle.paper.specs.Valuation.{margined, Valued, valued, valuedFrom, valuedIn}
+use Rattle.paper.specs.Valuation.{margined, valued, valuedFrom, valuedIn}
 use Rattle.paper.specs.Offsetting.{position}
-use Rattle.paper.specs.Refusals.{accepted}
 use Rattle.paper.specs.Report.{tradeLine, classLine, marginOf, currencyLines, reportOf}
+use Rattle.paper.specs.Bounds.{mostMark}
 use Rattle.paper.specs.Tables.{Admitted}
-use Rattle.paper.proofs.Lists.{made-at}
-use Rattle.paper.proofs.Currencies.{few-currencies}
-use Rattle.paper.proofs.Totals.{remainingIn, TableFacts, table-facts}
-use Rattle.fields.specs.Places.{Place, lineAt}
-use Rattle.rows.specs.Held.{heldClass}
-use Rattle.rows.specs.Sections.{nextAfter}
-use Rattle.searches.specs.Searches.{textAt}
-use Rattle.rows.specs.declared.ClassRow as rows
-use Rattle.sections.specs.Tables.{noClass}
-use Rattle.securities.specs.Tables.{noSecurity}
-use Rattle.securities.specs.declared.Security.{Security}
-use Rattle.trades.specs.Tables.{noTrade}
-use Rattle.trades.specs.declared.Trade.{Trade}
-use Rattle.sheet.specs.Whole.{heldSheet}
-use Rattle.sheet.proofs.Found.{Told}
-use Rattle.margin.specs.Figures.{noCurrency, fromRank}
+use Rattle.paper.proofs.Lists.{each-map, each-made, each-all}
+use Rattle.paper.proofs.Bounds.{valued-facts}
+use Rattle.paper.proofs.Currencies.{each-currency}
+use Rattle.paper.proofs.Totals.{remainingIn, TableFacts, table-facts, currency-facts}
+use Rattle.tables.specs.Numbers.{currencyNumber}
+use Rattle.tables.specs.Held.{noClass, noSecurity, noTrade, heldClass, heldSecurity, heldTables}
+use Rattle.tables.specs.declared.ClassRow.{ClassRow}
+use Rattle.tables.proofs.Numbers.{currency-number-low}
+use Rattle.tables.proofs.Places.{Stands, here, there, stands-low, stands-each, each-standing, stands-held, padded-any, currency-stands}
+use Rattle.margin.specs.Openings.{fromRank}
+use Rattle.margin.specs.Figures.{noCurrency}
 use Rattle.margin.specs.Held.{markOf, heldCurrency, heldFigures}
-use Rattle.margin.specs.declared.Currency as held
-use Rattle.margin.proofs.Rows.{row-at}
-use Rattle.margin.proofs.Ranks.{rank-place, has-rank, money-count}
-use Rattle.margin.proofs.Nets.{rank-made}
-use Rattle.margin.proofs.Trades.{noRow, placeOf, security-held, valued-out, valued-own}
-use Rattle.margin.proofs.Paper.{sheetOf, codesOf, tradeAt, securitiesFrom, tradesLine, KnownIn, securities-held, trades-known}
-use Rattle.lines.specs.Written.{positionLine, totalLine}
-use Rattle.report.specs.Texts.{moneyAt, marked, markText, positionText, currencyText, reportText}
-use Rattle.report.proofs.PaperTables.{padded-made, from-at}
+use Rattle.margin.proofs.Forwards.{ranks-made}
+use Rattle.margin.proofs.Trades.{Known, trades-known, tradeIn, security-held, valued-out, valued-own}
+use Rattle.margin.proofs.Paper.{tradesLine, letters, rising-currencies, currencies-few, rank-low}
+use Rattle.lines.specs.Written.{moneyText, markLine, positionLine, totalLine}
+use Rattle.lines.proofs.Currencies.{money-text}
+use Rattle.report.specs.Texts.{moneyAt, marked, markText, positionText, currencyText, noFigures, linesOf, reportText, Writable}
 
--- What stands where a table of the paper has no row
-abbrev noTradeRow : TradeRow
-noTradeRow =
-    record { trade = cash; side = seller; code = []; nominal = 0; amount = 0; first = 0; last = none; rate = none }
-
-abbrev noClassRow : ClassRow
-noClassRow = record { class = 0; kind = government; border = none; deposit = 0 }
-
--- The T row at a place of its table, the place of its line, and its security
-abbrev rowAt : Tables → ℕ → TradeRow
-rowAt t i = getD (t .trades) i noTradeRow
-
-abbrev linePlace : Text → Tables → ℕ → Place
-linePlace sheet t i = nextAfter sheet (sheetOf sheet t .securities .next) i
-
-abbrev securityFor : Text → Tables → ℕ → SecurityRow
-securityFor sheet t i = getD (t .securities) (placeOf sheet (codesOf sheet t) (linePlace sheet t i)) noRow
-
--- The M line of the T row at a place, as it is written; none where the row is not margined
-abbrev markAt : Text → Tables → ℕ → Text
-markAt sheet t i = markText sheet (sheetOf sheet t) (heldFigures t) i
-
--- The paper's M lines, and those of T rows that begin at a line
-abbrev markLines : List Valued → Text
-markLines vs = joinedUp (map tradeLine vs)
-
+-- The paper's M lines of T rows that begin at a line
 abbrev marksFrom : Tables → Line → List TradeRow → Text
-marksFrom t line rs = markLines (valuedFrom (day (t .date)) (t .securities) line rs)
+marksFrom t line rs = joinedUp (map tradeLine (valuedFrom (day (t .date)) (t .securities) line rs))
 
-module _ (sheet : Text) (t : Tables) (admitted : Admitted t) (told : Told sheet t) where
+module _ (t : Tables) (admitted : Admitted t) where
   -- What the rules say of the tables
   facts : TableFacts t
   facts = table-facts t admitted
 
-  -- There are as many currencies as the paper's
-  counted : sheetOf sheet t .securities .currencies .count ≡ length (currencies (t .securities))
-  counted = money-count sheet (securitiesFrom sheet t) (t .securities) (told .securities .money-texts)
-
   -- The letters of the currency of a rank are the paper's
-  money-held : (rank : ℕ) → rank < length (currencies (t .securities))
-      → moneyAt sheet (sheetOf sheet t .securities) rank ≡ getD (currencies (t .securities)) rank []
-  money-held rank low =
-      let money = sheetOf sheet t .securities .currencies in
-      let first = take (money .count) (money .places) in
-      let texts = told .securities .money-texts in
-      ap (textAt 3 sheet) (sym (getD-take (money .count) (money .places) rank 0 (omega (arith, counted))))
-      ∙ sym (made-at (textAt 3 sheet) first rank [] 0 (omega (arith, length-map first (textAt 3 sheet), ap length texts)))
-      ∙ ap (λ (l : List Text). getD l rank []) texts
+  money-held : (k : ℕ) (c : Currency) → Stands c (currencies (t .securities)) k → moneyText (moneyAt (heldTables t) k) ≡ c
+  money-held k c at =
+      ap moneyText (stands-held 8 0 currencyNumber (currencies-few t admitted) at 0)
+      ∙ money-text c (stands-each (each-currency (λ c. isCurrency c ≡ true) (t .securities) (letters t admitted)) at)
 
   -- ---- M lines
 
-  -- What is known of a T row
-  row-known : (i : ℕ) → i < length (t .trades) → KnownIn sheet t (linePlace sheet t i) (rowAt t i)
-  row-known i low = from-at i noTradeRow (trades-known sheet t admitted told) low
-
-  -- Its M line is that of the paper's row, currency and mark-to-market
-  mark-held : (i : ℕ) → i < length (t .trades)
-      → markAt sheet t i
-      ≡ marked (margined (day (t .date)) (rowAt t i)) (tradesLine t + i) (securityFor sheet t i .currency) (markOf t (rowAt t i))
-  mark-held i low =
-      let s = sheetOf sheet t .securities in
-      let line = tradesLine t + i in
-      let known = row-known i low in
-      let there = has-rank (t .securities) noRow (placeOf sheet (codesOf sheet t) (linePlace sheet t i)) (known .low) in
-      ap
-      (λ (h : Trade). marked (h .margined) line (moneyAt sheet s (getD (s .rows) (h .security) noSecurity .currency)) (getD (heldFigures t .marks) i (pos 0)))
-      (row-at (tradeAt sheet t) sheet 500 noTrade (s .next) (t .trades) noTradeRow (facts .few-trades) i low)
-      ∙ ap₂ (marked (margined (day (t .date)) (rowAt t i)) line)
-      (ap (λ (h : Security). moneyAt sheet s (h .currency))
-      (security-held (securities-held sheet t admitted told) (day (t .date)) (linePlace sheet t i) (rowAt t i) known)
-      ∙ money-held _ there
-      ∙ rank-place (currencies (t .securities)) (securityFor sheet t i .currency) there)
-      (padded-made 500 (pos 0) (markOf t) (t .trades) (facts .few-trades) i noTradeRow low)
-
-  -- ... before those of the rows behind it
-  mark-first : (i : ℕ) → i < length (t .trades) → (rs : List TradeRow)
-      → markAt sheet t i ++ marksFrom t (suc (tradesLine t + i)) rs ≡ marksFrom t (tradesLine t + i) (rowAt t i ∷ rs)
-  mark-first i low rs = ap (λ (l : Text). l ++ behind) (mark-held i low) ∙ go (margined today r) refl
+  -- The M line of a T row before those of the rows behind it
+  mark-first : (k : ℕ) (r : TradeRow) → Known t r → Stands r (t .trades) k → (rs : List TradeRow)
+      → markText (heldTables t) (heldFigures t) k ++ marksFrom t (suc (tradesLine t + k)) rs ≡ marksFrom t (tradesLine t + k) (r ∷ rs)
+  mark-first k r known at rs =
+      rw (
+        stands-held 500 noTrade (tradeIn t) (facts .few-trades) at noTrade,
+        security-held t admitted (known .stands),
+        stands-held 500 (pos 0) (markOf t) (facts .few-trades) at (pos 0),
+      )
+      (go (margined (day (t .date)) r) refl)
     where
-      today : Day
-      today = day (t .date)
-
-      r : TradeRow
-      r = rowAt t i
-
       line : Line
-      line = tradesLine t + i
+      line = tradesLine t + k
 
-      behind : Text
-      behind = marksFrom t (suc line) rs
+      s : SecurityRow
+      s = known .security
 
-      go : (own : Bool) → margined today r ≡ own
-          → marked (margined today r) line (securityFor sheet t i .currency) (markOf t r) ++ behind ≡ marksFrom t line (r ∷ rs)
-      go false e = rw e (sym (ap markLines (valued-out today (t .securities) line r rs e)))
+      rank : ℕ
+      rank = heldSecurity (t .classes) (currencies (t .securities)) s .currency
+
+      go : (own : Bool) → margined (day (t .date)) r ≡ own
+          → marked (margined (day (t .date)) r) line (moneyAt (heldTables t) rank) (markOf t r) ++ marksFrom t (suc line) rs ≡ marksFrom t line (r ∷ rs)
+      go false e = rw (e, valued-out (day (t .date)) (t .securities) line r rs e)
       go true e =
-          let s = securityFor sheet t i in
-          let found = row-known i low .found in
-          let mark : markOf t r ≡ valued today line r s .mark = rw (e, found, markOf) in
-          rw (e, mark) (sym (ap markLines (valued-own today (t .securities) line r rs s e found)))
+          let money = money-held rank (s .currency) (currency-stands (known .stands) (rising-currencies t admitted)) in
+          let mark : markOf t r ≡ valued (day (t .date)) line r s .mark = rw (e, known .found, markOf) in
+          rw (e, valued-own (day (t .date)) (t .securities) line r rs s e (known .found))
+          (ap₂ (λ (name : Currency) (mark : SignedCents). markLine line name mark ++ marksFrom t (suc line) rs) money mark)
 
   -- The M lines from a T row on
-  marks-held : (many at : ℕ) → at + many ≡ length (t .trades)
-      → joinedUp (fromRank (markAt sheet t) many at) ≡ marksFrom t (tradesLine t + at) (drop at (t .trades))
+  marks-held : {rs : List TradeRow} → Each (Known t) rs → (from : ℕ) → ((k : ℕ) (r : TradeRow) → Stands r rs k → Stands r (t .trades) (from + k))
+      → joinedUp (fromRank (markText (heldTables t) (heldFigures t)) (length rs) from) ≡ marksFrom t (tradesLine t + from) rs
   unfolding valuedFrom
-  marks-held zero at e = ap (marksFrom t (tradesLine t + at)) (sym (drop-of-length-le (t .trades) {i = at} (omega arith)))
-  marks-held (suc many) at e =
-      let rs = drop (suc at) (t .trades) in
-      ap (λ (l : Text). markAt sheet t at ++ l)
-      (marks-held many (suc at) (omega arith) ∙ ap (λ (line : Line). marksFrom t line rs) (add-suc (tradesLine t) at))
-      ∙ mark-first at (omega arith) rs
-      ∙ ap (marksFrom t (tradesLine t + at)) (sym (drop-cons (t .trades) at noTradeRow (omega arith)))
+  marks-held nil from inside = refl
+  marks-held (cons {a = r} {rest = rs} known rest) from inside =
+      let first : from + 0 ≡ from = omega arith in
+      let next : tradesLine t + suc from ≡ suc (tradesLine t + from) = omega arith in
+      ap (λ (l : Text). markText (heldTables t) (heldFigures t) from ++ l)
+      (marks-held rest (suc from) (λ k x at. let on : from + suc k ≡ suc from + k = omega arith in rw on at (inside (suc k) x (there at)))
+      ∙ ap (λ (line : Line). marksFrom t line rs) next)
+      ∙ mark-first from r known (rw first at (inside 0 r here)) rs
 
   -- ---- K and Z lines
 
   -- The K line of a class in a currency
-  position-held : (c : Currency) (i : ℕ) → i < length (t .classes)
-      → positionText c (sheetOf sheet t .classes) (heldCurrency t c) i ≡ classLine c (remainingIn t c) (getD (t .classes) i noClassRow)
+  position-held : (k : ℕ) (c : Currency) → Stands c (currencies (t .securities)) k → (i : ℕ) (row : paper.ClassRow) → Stands row (t .classes) i
+      → positionText (moneyAt (heldTables t) k) (heldTables t .classes) (heldCurrency t c) i ≡ classLine c (remainingIn t c) row
   unfolding classLine
-  position-held c i low =
+  position-held k c money i row at =
       let b = remainingIn t c in
-      ap₂ (λ (h : rows.ClassRow) (margin : Whole). positionLine c (h .class) (position (b .long) (h .class)) (position (b .short) (h .class)) margin)
-      (row-at (λ at. heldClass) sheet 40 noClass (lineAt sheet 6 .next) (t .classes) noClassRow (facts .few-classes) i low)
-      (padded-made 40 0 (marginOf b) (t .classes) (facts .few-classes) i noClassRow low)
+      ap₂ (λ (name : Currency) (h : ClassRow).
+      positionLine name (h .class) (position (b .long) (h .class)) (position (b .short) (h .class)) (getD (heldCurrency t c .margins) i 0))
+      (money-held k c money)
+      (stands-held 40 noClass heldClass (facts .few-classes) at noClass)
+      ∙ ap (positionLine c (row .class) (position (b .long) (row .class)) (position (b .short) (row .class)))
+      (stands-held 40 0 (marginOf b) (facts .few-classes) at 0)
 
   -- The lines of a currency
-  currency-held : (rank : ℕ) → rank < length (currencies (t .securities))
-      → currencyText sheet (sheetOf sheet t) (heldFigures t) rank ≡ currencyLines t (valuedIn t) (getD (currencies (t .securities)) rank [])
+  currency-held : (k : ℕ) (c : Currency) → Stands c (currencies (t .securities)) k
+      → currencyText (heldTables t) (heldFigures t) k ≡ currencyLines t (valuedIn t) c
   unfolding currencyLines
-  currency-held rank low =
-      let cs = t .classes in
-      let c = getD (currencies (t .securities)) rank [] in
+  currency-held k c at =
       let f = heldCurrency t c in
-      ap₂ (λ (money : Currency) (f : held.Currency).
-      joinedUp (fromRank (positionText money (sheetOf sheet t .classes) f) (length cs) 0) ++ totalLine money (f .mark) (f .initial) (f .total))
-      (money-held rank low)
-      (padded-made 8 noCurrency (heldCurrency t) (currencies (t .securities)) (few-currencies cs (t .securities) (admitted .3)) rank [] low)
-      ∙ ap (λ (ls : List Text). joinedUp ls ++ totalLine c (f .mark) (f .initial) (f .total))
-      (rank-made _ (classLine c (remainingIn t c)) cs noClassRow (position-held c) (length cs) 0 (omega arith))
+      ap (linesOf (moneyAt (heldTables t) k) (heldTables t .classes)) (stands-held 8 noCurrency (heldCurrency t) (currencies-few t admitted) at noFigures)
+      ∙ ap₂ (λ (ls : List Text) (name : Currency). joinedUp ls ++ totalLine name (f .mark) (f .initial) (f .total))
+      (ranks-made _ (classLine c (remainingIn t c)) (t .classes) (position-held k c at))
+      (money-held k c at)
 
-  -- The report's text of an accepted sheet is the paper's
-  pub text-held : reportText sheet (heldSheet sheet (accepted t)) (heldFigures t) ≡ reportOf t
+  -- The report's text of admitted tables is the paper's
+  pub text-held : reportText (heldTables t) (heldFigures t) ≡ reportOf t
   unfolding reportOf
   text-held =
-      let cs = currencies (t .securities) in
+      let start : tradesLine t + 0 ≡ tradesLine t = omega arith in
       ap₂ (λ (marks others : Text). marks ++ others)
-      (marks-held (length (t .trades)) 0 (omega arith) ∙ ap (λ (line : Line). marksFrom t line (t .trades)) (add-zero (tradesLine t)))
-      (ap joinedUp (ap (λ (many : ℕ). fromRank (currencyText sheet (sheetOf sheet t) (heldFigures t)) many 0) counted
-      ∙ rank-made _ (currencyLines t (valuedIn t)) cs [] currency-held (length cs) 0 (omega arith)))
+      (marks-held (trades-known t admitted) 0 (λ k r at. let same : 0 + k ≡ k = omega arith in rw same at) ∙ ap (λ (line : Line). marksFrom t line (t .trades)) start)
+      (ap joinedUp (ranks-made _ (currencyLines t (valuedIn t)) (currencies (t .securities)) currency-held))
+
+  -- ---- it can be written
+
+  -- The mark-to-market of a trade, in size: cents
+  mark-size : (r : TradeRow) → Known t r → natAbs (markOf t r) ≤ mostMark
+  mark-size r known = go (margined (day (t .date)) r) refl
+    where
+      go : (own : Bool) → margined (day (t .date)) r ≡ own → natAbs (markOf t r) ≤ mostMark
+      go false e = rw (e, markOf) (omega arith)
+      go true e =
+          let s = known .security in
+          rw (e, known .found, markOf)
+          (valued-facts (day (t .date)) 0 r s (known .facts .facts) (stands-each (facts .securities) (known .stands)) e (known .facts .period s (known .found) e .1)
+          (omega arith)
+          .mark)
+
+  -- The report of admitted tables can be written
+  pub writable-held : Writable (heldTables t) (heldFigures t)
+  writable-held =
+      let cs = currencies (t .securities) in
+      record {
+        classes = record {
+          few = facts .few-classes;
+          class =
+              padded-any (λ h. h .class ≤ 40) 40 (each-made heldClass (t .classes) (each-map (λ c f. f .high) (facts .classes))) (omega arith) noClass (omega arith);
+        };
+        few-priorities = facts .few-priorities;
+        few-securities = facts .few-securities;
+        few-trades = facts .few-trades;
+        few-currencies = currencies-few t admitted;
+        security =
+            padded-any (λ h. h .security < 200) 500
+            (each-made (tradeIn t) (t .trades) (each-map (λ r known. omega (arith, stands-low (known .stands), facts .few-securities)) (trades-known t admitted)))
+            (omega arith)
+            noTrade
+            (omega arith);
+        currency =
+            padded-any (λ h. h .currency < 8) 200
+            (each-made (heldSecurity (t .classes) cs) (t .securities) (each-standing (t .securities) (λ k s at. rank-low t admitted at)))
+            (omega arith)
+            noSecurity
+            (omega arith);
+        money =
+            padded-any (λ n. n < 79_507) 8
+            (each-made currencyNumber cs (each-map currency-number-low (each-currency (λ c. isCurrency c ≡ true) (t .securities) (letters t admitted))))
+            (omega arith)
+            0
+            (omega arith);
+        mark =
+            padded-any (λ mark. natAbs mark < 2 ^ 63) 500
+            (each-made (markOf t) (t .trades) (each-map (λ r known. omega (arith, mark-size r known)) (trades-known t admitted)))
+            (omega arith)
+            (pos 0)
+            (omega arith);
+        sum =
+            padded-any (λ c. natAbs (c .mark) < 2 ^ 63) 8
+            (each-made (heldCurrency t) cs (each-all (λ c. omega (arith, currency-facts t admitted c .mark)) cs))
+            (omega arith)
+            noFigures
+            (omega arith);
+      }

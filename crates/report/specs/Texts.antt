@@ -3,60 +3,61 @@ use Prim.Native.Nat.{ℕ, _+_, _≤_, _<_, _^_}
 use mathlib.Core.Bool.{Bool, true, false}
 use mathlib.Core.List.{[], _++_}
 use lib.IntN.{pos, natAbs}
-use lib.ListN.{length, getD}
-use Rattle.paper.specs.Units as units
+use lib.ListN.{getD}
 use Rattle.paper.specs.Units.{Text, Line, SignedCents}
 use Rattle.paper.specs.Lists.{joinedUp}
-use Rattle.sections.specs.Tables.{noClass}
-use Rattle.sections.specs.declared.Classes.{Classes}
-use Rattle.securities.specs.Tables.{noSecurity}
-use Rattle.securities.specs.declared.Securities.{Securities}
-use Rattle.trades.specs.Tables.{noTrade}
-use Rattle.sheet.specs.declared.Sheet.{Sheet}
-use Rattle.margin.specs.Figures.{noCurrency, fromRank}
+use Rattle.tables.specs.Held.{noClass, noSecurity, noTrade}
+use Rattle.tables.specs.declared.Classes.{Classes}
+use Rattle.tables.specs.declared.Tables.{Tables}
+use Rattle.margin.specs.Openings.{fromRank}
 use Rattle.margin.specs.declared.Currency.{Currency}
 use Rattle.margin.specs.declared.Figures.{Figures}
-use Rattle.lines.specs.Written.{currencyAt, markLine, positionLine, totalLine}
-
--- The letters of the currency of a rank
-abbrev pub moneyAt : Text → Securities → ℕ → units.Currency
-moneyAt sheet ss rank = currencyAt sheet (getD (ss .currencies .places) rank 0)
+use Rattle.lines.specs.Written.{moneyText, markLine, positionLine, totalLine}
 
 -- The line of the first T row: behind the header, the D row and the other tables
-abbrev pub firstLine : Sheet → Line
+abbrev pub firstLine : Tables → Line
 firstLine t = 3 + t .classes .count + t .priorities .count + t .securities .count
 
--- The M line of a trade, in cents; none where it is not margined
-abbrev pub marked : Bool → Line → units.Currency → SignedCents → Text
-marked false line currency mark = []
-marked true line currency mark = markLine line currency mark
+-- The number of the currency of a rank
+abbrev pub moneyAt : Tables → ℕ → ℕ
+moneyAt t rank = getD (t .securities .currencies .numbers) rank 0
+
+-- The M line of a trade, by the number of its currency, in cents; none where it is not margined
+abbrev pub marked : Bool → Line → ℕ → SignedCents → Text
+marked false line money mark = []
+marked true line money mark = markLine line (moneyText money) mark
 
 -- ... of the T row at a place of its table
-abbrev pub markText : Text → Sheet → Figures → ℕ → Text
-markText sheet t f i =
+abbrev pub markText : Tables → Figures → ℕ → Text
+markText t f i =
     let trade = getD (t .trades .rows) i noTrade in
     let security = getD (t .securities .rows) (trade .security) noSecurity in
-    marked (trade .margined) (firstLine t + i) (moneyAt sheet (t .securities) (security .currency)) (getD (f .marks) i (pos 0))
+    marked (trade .margined) (firstLine t + i) (moneyAt t (security .currency)) (getD (f .marks) i (pos 0))
 
--- The K line of the C row at a place of its table
-abbrev pub positionText : units.Currency → Classes → Currency → ℕ → Text
+-- The K line of the C row at a place of its table, by the number of the currency
+abbrev pub positionText : ℕ → Classes → Currency → ℕ → Text
 positionText money cs c i =
     let class = getD (cs .rows) i noClass .class in
-    positionLine money class (getD (c .long) class 0) (getD (c .short) class 0) (getD (c .margins) i 0)
+    positionLine (moneyText money) class (getD (c .long) class 0) (getD (c .short) class 0) (getD (c .margins) i 0)
 
--- A currency's lines
-abbrev pub currencyText : Text → Sheet → Figures → ℕ → Text
-currencyText sheet t f rank =
-    let money = moneyAt sheet (t .securities) rank in
-    let c = getD (f .currencies) rank noCurrency in
-    joinedUp (fromRank (positionText money (t .classes) c) (t .classes .count) 0)
-    ++ totalLine money (c .mark) (c .initial) (c .total)
+-- What stands past the figures of currencies
+abbrev pub noFigures : Currency
+noFigures = record { long = []; short = []; margins = []; mark = pos 0; initial = 0; total = 0 }
+
+-- The lines of a currency, by its number
+abbrev pub linesOf : ℕ → Classes → Currency → Text
+linesOf money cs c =
+    joinedUp (fromRank (positionText money cs c) (cs .count) 0) ++ totalLine (moneyText money) (c .mark) (c .initial) (c .total)
+
+-- ... of a rank
+abbrev pub currencyText : Tables → Figures → ℕ → Text
+currencyText t f rank = linesOf (moneyAt t rank) (t .classes) (getD (f .currencies) rank noFigures)
 
 -- The whole text: M lines, then each currency's
-abbrev pub reportText : Text → Sheet → Figures → Text
-reportText sheet t f =
-    joinedUp (fromRank (markText sheet t f) (t .trades .count) 0)
-    ++ joinedUp (fromRank (currencyText sheet t f) (t .securities .currencies .count) 0)
+abbrev pub reportText : Tables → Figures → Text
+reportText t f =
+    joinedUp (fromRank (markText t f) (t .trades .count) 0)
+    ++ joinedUp (fromRank (currencyText t f) (t .securities .currencies .count) 0)
 
 -- Classes that have their places
 pub record Classed (cs : Classes) : Type 0 where
@@ -64,7 +65,7 @@ pub record Classed (cs : Classes) : Type 0 where
   pub class : (i : ℕ) → getD (cs .rows) i noClass .class ≤ 40
 
 -- What writing asks: tables and figures that stand in their places, and signed figures that fit 64 bits
-pub record Writable (sheet : Text) (t : Sheet) (f : Figures) : Type 0 where
+pub record Writable (t : Tables) (f : Figures) : Type 0 where
   pub classes : Classed (t .classes)
   pub few-priorities : t .priorities .count ≤ 200
   pub few-securities : t .securities .count ≤ 200
@@ -72,6 +73,6 @@ pub record Writable (sheet : Text) (t : Sheet) (f : Figures) : Type 0 where
   pub few-currencies : t .securities .currencies .count ≤ 8
   pub security : (i : ℕ) → getD (t .trades .rows) i noTrade .security < 200
   pub currency : (i : ℕ) → getD (t .securities .rows) i noSecurity .currency < 8
-  pub money : (rank : ℕ) → rank < 8 → getD (t .securities .currencies .places) rank 0 + 3 ≤ length sheet
+  pub money : (rank : ℕ) → moneyAt t rank < 79_507
   pub mark : (i : ℕ) → natAbs (getD (f .marks) i (pos 0)) < 2 ^ 63
-  pub sum : (rank : ℕ) → natAbs (getD (f .currencies) rank noCurrency .mark) < 2 ^ 63
+  pub sum : (rank : ℕ) → natAbs (getD (f .currencies) rank noFigures .mark) < 2 ^ 63

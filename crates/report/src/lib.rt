@@ -1,62 +1,61 @@
 // The report: the figures of a sheet as lines in the lent buffer, M lines first, then each currency's.
-use fields::Place;
+use lines::Place;
 use margin::Currency;
 use margin::Figures;
-use sections::Classes;
-use sheet::Sheet;
+use tables::Classes;
+use tables::Money;
+use tables::Tables;
 ghost use Prim.Native.Nat.{_+_, _≤_, _<_, _^_};
 ghost use lib.IntN.{natAbs};
 ghost use lib.ListN.{length};
 ghost use Rattle.paper.specs.Lists.{joinedUp};
-ghost use Rattle.margin.specs.Figures.{fromRank};
-ghost use Rattle.lines.specs.Written.{Wrote, currencyAt};
+ghost use Rattle.margin.specs.Openings.{fromRank};
+ghost use Rattle.lines.specs.Written.{Wrote};
 ghost use Rattle.report.specs.Texts.{Writable, Classed, marked, markText, positionText, currencyText, reportText};
 
 // The M line of a trade, where it is margined.
 fn put_mark(
     report: &mut [u8],
-    at: Place, // in the report
-    s: &[u8],
+    at: Place,
     margined: bool,
-    currency: Place, // in the sheet
+    money: Money,
     line: u64, // of the sheet, from 1
     mark: i64, // cents
 ) -> Place
-    requires { ⌜ (natAbs mark < 2 ^ 63) × (currency + 3 ≤ length (now s)) ⌝ }
-    requires { ⌜ at + length (marked margined line (currencyAt (now s) currency) mark) ≤ length (now report) ⌝ }
-    ensures { λ r. ⌜ Wrote (marked margined line (currencyAt (now (s .entry)) currency) mark) at (now (report .entry)) r (now (report .exit)) ⌝ }
+    requires { ⌜ (natAbs mark < 2 ^ 63) × (money < 79_507) ⌝ }
+    requires { ⌜ at + length (marked margined line money mark) ≤ length (now report) ⌝ }
+    ensures { λ r. ⌜ Wrote (marked margined line money mark) at (now (report .entry)) r (now (report .exit)) ⌝ }
 {
     if !margined {
         return at;
     }
-    lines::mark_line(report, at, s, currency, line, mark)
+    lines::mark_line(report, at, money, line, mark)
 }
 
 // The M lines of the margined trades, in sheet order.
-fn mark_lines(report: &mut [u8], s: &[u8], tables: Sheet, figures: Figures) -> Place
-    requires { ⌜ Writable (now s) tables figures ⌝ }
-    requires { ⌜ length (joinedUp (fromRank (markText (now s) tables figures) (tables .trades .count) 0)) ≤ length (now report) ⌝ }
-    ensures { λ r. ⌜ Wrote (joinedUp (fromRank (markText (now (s .entry)) tables figures) (tables .trades .count) 0)) 0 (now (report .entry)) r (now (report .exit)) ⌝ }
+fn mark_lines(report: &mut [u8], tables: Tables, figures: Figures) -> Place
+    requires { ⌜ Writable tables figures ⌝ }
+    requires { ⌜ length (joinedUp (fromRank (markText tables figures) (tables .trades .count) 0)) ≤ length (now report) ⌝ }
+    ensures { λ r. ⌜ Wrote (joinedUp (fromRank (markText tables figures) (tables .trades .count) 0)) 0 (now (report .entry)) r (now (report .exit)) ⌝ }
 {
     let trades = tables.trades;
     let securities = tables.securities;
-    let places = securities.currencies.places;
+    let numbers = securities.currencies.numbers;
     let rows = securities.rows;
     let marks = figures.marks; // cents
     let first = 3 + tables.classes.count + tables.priorities.count + securities.count; // line
-    let mut at: Place = 0; // in the report
+    let mut at: Place = 0;
     let mut i: usize = 0; // trades
     while i < trades.count {
         let trade = trades.rows[i];
-        let place = trade.security;
+        let place = trade.security as usize; // among the securities
         let security = rows[place];
-        let rank = security.currency;
+        let rank = security.currency as usize; // among the currencies
         at = put_mark(
             report,
             at,
-            s,
             trade.margined,
-            places[rank],
+            numbers[rank],
             (first + i) as u64,
             marks[i],
         );
@@ -68,21 +67,20 @@ fn mark_lines(report: &mut [u8], s: &[u8], tables: Sheet, figures: Figures) -> P
 // The K lines of a currency, by rising class.
 fn position_lines(
     report: &mut [u8],
-    from: Place, // in the report
-    s: &[u8],
-    currency: Place, // in the sheet
+    from: Place,
+    money: Money,
     classes: Classes,
     figures: Currency,
 ) -> Place
-    requires { ⌜ (currency + 3 ≤ length (now s)) × Classed classes ⌝ }
-    requires { ⌜ from + length (joinedUp (fromRank (positionText (currencyAt (now s) currency) classes figures) (classes .count) 0)) ≤ length (now report) ⌝ }
-    ensures { λ r. ⌜ Wrote (joinedUp (fromRank (positionText (currencyAt (now (s .entry)) currency) classes figures) (classes .count) 0)) from (now (report .entry)) r (now (report .exit)) ⌝ }
+    requires { ⌜ (money < 79_507) × Classed classes ⌝ }
+    requires { ⌜ from + length (joinedUp (fromRank (positionText money classes figures) (classes .count) 0)) ≤ length (now report) ⌝ }
+    ensures { λ r. ⌜ Wrote (joinedUp (fromRank (positionText money classes figures) (classes .count) 0)) from (now (report .entry)) r (now (report .exit)) ⌝ }
 {
     let rows = classes.rows;
     let long = figures.long; // whole units
     let short = figures.short; // whole units
     let margins = figures.margins; // whole units
-    let mut at = from; // in the report
+    let mut at = from;
     let mut i: usize = 0; // classes
     while i < classes.count {
         let row = rows[i];
@@ -90,8 +88,7 @@ fn position_lines(
         at = lines::position_line(
             report,
             at,
-            s,
-            currency,
+            money,
             row.class,
             long[class],
             short[class],
@@ -103,32 +100,25 @@ fn position_lines(
 }
 
 // The lines of all currencies, rising: K lines, then the Z line.
-fn currency_lines(
-    report: &mut [u8],
-    from: Place, // in the report
-    s: &[u8],
-    tables: Sheet,
-    figures: Figures,
-) -> Place
-    requires { ⌜ Writable (now s) tables figures ⌝ }
-    requires { ⌜ from + length (joinedUp (fromRank (currencyText (now s) tables figures) (tables .securities .currencies .count) 0)) ≤ length (now report) ⌝ }
-    ensures { λ r. ⌜ Wrote (joinedUp (fromRank (currencyText (now (s .entry)) tables figures) (tables .securities .currencies .count) 0)) from (now (report .entry)) r (now (report .exit)) ⌝ }
+fn currency_lines(report: &mut [u8], from: Place, tables: Tables, figures: Figures) -> Place
+    requires { ⌜ Writable tables figures ⌝ }
+    requires { ⌜ from + length (joinedUp (fromRank (currencyText tables figures) (tables .securities .currencies .count) 0)) ≤ length (now report) ⌝ }
+    ensures { λ r. ⌜ Wrote (joinedUp (fromRank (currencyText tables figures) (tables .securities .currencies .count) 0)) from (now (report .entry)) r (now (report .exit)) ⌝ }
 {
     let classes = tables.classes;
-    let money = tables.securities.currencies;
-    let places = money.places;
+    let known = tables.securities.currencies;
+    let numbers = known.numbers;
     let currencies = figures.currencies;
-    let mut at = from; // in the report
+    let mut at = from;
     let mut r: usize = 0; // currencies
-    while r < money.count {
+    while r < known.count {
         let currency = currencies[r];
-        let place = places[r];
-        let behind = position_lines(report, at, s, place, classes, currency);
+        let money = numbers[r];
+        let behind = position_lines(report, at, money, classes, currency);
         at = lines::total_line(
             report,
             behind,
-            s,
-            place,
+            money,
             currency.mark,
             currency.initial,
             currency.total,
@@ -139,11 +129,11 @@ fn currency_lines(
 }
 
 // The whole report, from the buffer's start; gives its length.
-pub fn write(report: &mut [u8], s: &[u8], tables: Sheet, figures: Figures) -> Place
-    requires { ⌜ Writable (now s) tables figures ⌝ }
-    requires { ⌜ length (reportText (now s) tables figures) ≤ length (now report) ⌝ }
-    ensures { λ r. ⌜ Wrote (reportText (now (s .entry)) tables figures) 0 (now (report .entry)) r (now (report .exit)) ⌝ }
+pub fn write(report: &mut [u8], tables: Tables, figures: Figures) -> Place
+    requires { ⌜ Writable tables figures ⌝ }
+    requires { ⌜ length (reportText tables figures) ≤ length (now report) ⌝ }
+    ensures { λ r. ⌜ Wrote (reportText tables figures) 0 (now (report .entry)) r (now (report .exit)) ⌝ }
 {
-    let at = mark_lines(report, s, tables, figures); // in the report
-    currency_lines(report, at, s, tables, figures)
+    let at = mark_lines(report, tables, figures);
+    currency_lines(report, at, tables, figures)
 }

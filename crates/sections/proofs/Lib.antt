@@ -1,3 +1,4 @@
-pub mod Judging
-pub mod Taken
-pub mod Backs
+pub mod Begins
+pub mod Loops
+pub mod Reading
+pub mod Stages

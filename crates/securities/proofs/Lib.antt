@@ -1,3 +1,6 @@
-pub mod Judging
-pub mod Facts
+pub mod Over
+pub mod Row
+pub mod Ranks
+pub mod Codes
 pub mod Turns
+pub mod Classes

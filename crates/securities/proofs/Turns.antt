@@ -1,441 +1,348 @@
--- The loop over the S rows, turn by turn: what is true of its tables whatever the classes are, what they hold for given
--- classes, and what they are when the section ends.
+-- The loop over the S rows, turn by turn: the table has the rows above, what judges a row is what they tell, and what the code
+-- makes of a row is what the paper makes of it.
 use Prim.Native.Nat.{ℕ, zero, suc, _+_, _≤_, _<_}
-use native.Mathlib.Numerals.{add-one}
 use native.Mathlib.Omega.{arith}
-use mathlib.Core.Bool.{Bool, true, false, _||_}
-use mathlib.Core.List.{List, [], _∷_, _++_, map, map-append, reverse, reverse-cons}
+use mathlib.Core.Bool.{Bool, true, false, not, _&&_, _||_}
+use mathlib.Core.List.{List, [], _∷_, _++_, map, reverse, reverse-cons}
+use mathlib.Core.Option.{Option, none, some, Option·getD}
 use mathlib.Core.Path.{_≡_, refl, sym, ap, ap₂, _∙_, subst}
-use borrow.Author.Tests.{ltb-true}
-use lib.Dec.{ltb}
-use lib.ListN.{length, take, drop, set, replicate, length-set, length-replicate, length-reverse}
-use lib.Seq.{length-take-le, take-suc-set}
-use Rattle.paper.specs.Units.{Text, Currency}
-use Rattle.paper.specs.Lists.{firstThat, inTurn}
-use Rattle.paper.specs.Text.{same, isCode, lines}
+use lib.Dec.{T, eqb, ltb, ltb→lt}
+use lib.ListN.{length, take, set, replicate, length-reverse}
+use Rattle.paper.specs.Units.{Text, Date, Day, Currency, Class}
+use Rattle.paper.specs.Days.{isDay, day, dayOf}
+use Rattle.paper.specs.Lists.{between, every, given}
+use Rattle.paper.specs.Text.{before, isCode, isCurrency}
 use Rattle.paper.specs.Rows as paper
-use Rattle.paper.specs.Rows.{readSecurity}
 use Rattle.paper.specs.Currencies.{currencies, hasCurrency}
-use Rattle.paper.specs.Refusals.{Outcome, refused, accepted, securityRules}
-use Rattle.paper.specs.Sheet.{Rest, begins, row}
-use Rattle.paper.proofs.Lists.{both, Each, nil, cons, each-map}
-use Rattle.paper.proofs.Order.{same-refl}
-use Rattle.paper.proofs.Outcomes.{accepted-one, not-accepted}
-use Rattle.paper.proofs.Currencies.{has-currency, currencies-reverse}
-use Rattle.fields.specs.Places.{Place, endedLength, lineAt}
-use Rattle.fields.proofs.Places.{line-there}
-use Rattle.rows.specs.Fields.{fieldsAt}
-use Rattle.rows.specs.Held.{fieldPlace}
-use Rattle.rows.specs.Reads.{securityRead}
-use Rattle.rows.specs.declared.SecurityRow.{SecurityRow}
-use Rattle.rows.specs.Sections.{goesOn, nextAfter, heldFrom, padded}
-use Rattle.rows.proofs.Loops.{Going, going-start, going-on, going-refused, going-ended, whole, EachFrom, none-from, one-from, each-more, table-more, padded-none, held-more, held-length}
-use Rattle.searches.specs.Searches.{Within, nowhere, Coded, textAt, rankedOf, insertedAt, Rising, rises-none}
-use Rattle.searches.proofs.Codes.{coded-last}
-use Rattle.searches.specs.declared.Currencies.{Currencies}
-use Rattle.searches.proofs.Rules.{rank-has, rank-is, rank-low, inserted-currencies, inserted-first, inserted-length, within-put, within-last, rising-last}
-use Rattle.securities.specs.Tables.{noSecurity, noMoney, heldFound, withMoney, moneyFrom, heldSecurities, Bordered, FindableIn, securityJudged, reranked}
-use Rattle.securities.specs.declared.Security.{Security}
-use Rattle.securities.specs.declared.Securities.{Securities}
-use Rattle.securities.specs.declared.SecurityFound.{SecurityFound}
-use Rattle.securities.specs.declared.SecurityFound.the-variants as found
-use Rattle.securities.proofs.Judging.{unranked, Placed, SecurityAgrees, security-row, security-refused, security-agrees}
-use Rattle.securities.proofs.Facts.{Taken}
+use Rattle.paper.specs.Valuation.{classOf}
+use Rattle.paper.specs.Refusals.{refused, isDuration, securityKind}
+use Rattle.paper.specs.Tables.{hold}
+use Rattle.paper.proofs.Lists.{tests, both, bounds, Each, nil, cons, each-map}
+use Rattle.paper.proofs.Days.{day-below}
+use Rattle.paper.proofs.Currencies.{currencies-reverse}
+use Rattle.paper.proofs.Rules.{SecurityFacts, security-facts}
+use Rattle.fields.specs.Places.{Place, endedLength}
+use Rattle.tables.specs.Numbers.{codeNumber, currencyNumber, highest, numberPlace}
+use Rattle.tables.specs.Padded.{tableOf}
+use Rattle.tables.specs.Held.{noSecurity, heldSecurity, currencyTable, securityTable}
+use Rattle.tables.specs.Back.{paperClasses, ranged}
+use Rattle.tables.specs.declared.Classes.{Classes}
+use Rattle.tables.specs.declared.Currencies.{Currencies}
+use Rattle.tables.specs.declared.Securities.{Securities}
+use Rattle.tables.specs.declared.Security.{Security}
+use Rattle.tables.proofs.Padded.{table-more, table-front}
+use Rattle.sections.specs.Sections.{goesOn, broken}
+use Rattle.sections.proofs.Loops as loops
+use Rattle.sections.proofs.Loops.{Kept, none-kept, more-kept, Words, Going, going-start, going-ended, line-refused, LineRow, line-row, result-refused, result-ended}
+use Rattle.sections.specs.declared.Section.{Section}
+use Rattle.securities.specs.Read.{heldRow, securityRead}
+use Rattle.securities.specs.Classes.{columnsOf, classIn}
+use Rattle.securities.specs.Ranks.{rankedOf, insertedAt, withRank}
+use Rattle.securities.specs.Section.{Small, brokenOf, securityOf, securitySection}
+use Rattle.securities.specs.declared.SecurityRow.{SecurityRow}
+use Rattle.securities.specs.declared.SecurityRead.the-variants as reads
+use Rattle.securities.specs.declared.SecuritySection.{SecuritySection}
+use Rattle.securities.specs.declared.Standing.{Standing}
+use Rattle.securities.proofs.Classes.{Classed, class-is, class-given, class-most, table-classed}
+use Rattle.securities.proofs.Codes.{lastOf, last-before}
+use Rattle.securities.proofs.Row.{payments-parts}
+use Rattle.securities.proofs.Ranks.{Currencied, moneyOf, rank-place, rank-has, each-there, money-known, money-longer, money-new}
 
--- ---- whatever the classes are
-
--- What a store behind the first so many adds to them
-stored : {A : Type 0} (l : List A) (n : ℕ) (a : A) → n < length l → take (n + 1) (set l n a) ≡ take n l ++ (a ∷ [])
-stored l n a h = ap (λ (k : ℕ). take k (set l n a)) (add-one n) ∙ take-suc-set l n a h
-
--- A currency that stands above or has room, put among the others: they fit, and stand in the sheet
-module _ (sheet : Text) (money : Currencies) (few : money .count ≤ 8) (long : length (money .places) ≡ 8) (p : Place) where
-  -- It has room where it does not stand above
-  has-room : rankedOf sheet (take (money .count) (money .places)) p .there ≡ false
-      → (rankedOf sheet (take (money .count) (money .places)) p .there || ltb (money .count) 8) ≡ true → money .count < 8
-  has-room missing known = ltb-true (money .count) 8 (sym (ap (λ (t : Bool). t || ltb (money .count) 8) missing) ∙ known)
-
-  pub money-more : Within 3 sheet (take (money .count) (money .places)) → p + 3 ≤ length sheet
-      → (rankedOf sheet (take (money .count) (money .places)) p .there || ltb (money .count) 8) ≡ true
-      → let next = withMoney sheet money p in
-      (next .count ≤ 8) × (length (next .places) ≡ 8) × Within 3 sheet (take (next .count) (next .places))
-  money-more inside fits known = go (rankedOf sheet (take (money .count) (money .places)) p .there) refl
-    where
-      go : (t : Bool) → rankedOf sheet (take (money .count) (money .places)) p .there ≡ t
-          → let next : Currencies = elim t [ true ↦ money | false ↦ insertedAt money (rankedOf sheet (take (money .count) (money .places)) p .rank) p ] in
-          (next .count ≤ 8) × (length (next .places) ≡ 8) × Within 3 sheet (take (next .count) (next .places))
-      go true e = (few, long, inside)
-      go false e =
-          let room : money .count < length (money .places) = omega (arith, has-room e known) in
-          let rank = rankedOf sheet (take (money .count) (money .places)) p .rank in
-          let low = rank-low sheet (money .places) (money .count) p in (
-            omega arith,
-            inserted-length money rank p low room ∙ long,
-            subst (Within 3 sheet) (sym (inserted-first money rank p low room)) (within-put 3 sheet p fits rank inside),
-          )
-
--- The tables fit, their places stand in the sheet, and the codes rise
-pub record Plain (sheet : Text) (rows : List Security) (codes : List Place) (money : Currencies) (count : ℕ) (at : Place) : Type 0 where
-  pub within : at ≤ endedLength sheet
-  pub few : count ≤ 200
-  pub rows-long : length rows ≡ 200
-  pub codes-long : length codes ≡ 200
-  pub money-few : money .count ≤ 8
-  pub money-long : length (money .places) ≡ 8
-  pub codes-inside : Within 12 sheet (take count codes)
-  pub codes-coded : Coded sheet (take count codes)
-  pub money-inside : Within 3 sheet (take (money .count) (money .places))
-  pub rows-inside : Within 3 sheet (map (λ r. r .row .currency) (take count rows))
-  pub rising : Rising sheet (take count codes)
-
-pub plain-start : (sheet : Text) (from : Place) → from ≤ endedLength sheet
-    → Plain sheet (replicate 200 noSecurity) (replicate 200 0) noMoney 0 from
-plain-start sheet from h =
-    let empty : Place = 0 in
+-- How the code says a row and a refusal
+pub words : Words reads.Refused (λ (s : SecurityRow) (next : Place). reads.Row s next)
+words =
     record {
-      within = h;
-      few = omega arith;
-      rows-long = length-replicate 200 noSecurity;
-      codes-long = length-replicate 200 empty;
-      money-few = omega arith;
-      money-long = length-replicate 8 empty;
-      codes-inside = nowhere;
-      codes-coded = nil;
-      money-inside = nowhere;
-      rows-inside = nowhere;
-      rising = rises-none;
+      apart = λ number s next e. let z : _≡_ {A = ℕ} 0 1 = cc in absurd (omega arith);
+      one = λ s t m n e. (cc, cc);
+      number = λ m n e. cc;
     }
 
--- A turn that takes a row
-module _ {sheet : Text} {rows : List Security} {codes : List Place} {money : Currencies} {count : ℕ} {at : Place}
-    (plain : Plain sheet rows codes money count at) {s : Security} {next : Place}
-    (taken : Taken sheet (take count codes) (take (money .count) (money .places)) at s next) where
-  -- There is room for it
-  pub turn-room : count < 200
-  turn-room = omega (arith, taken .few, length-take-le count codes (omega (arith, plain .few, plain .codes-long)))
+-- What the rules of a row by itself say
+record Formed (s : paper.SecurityRow) : Type 0 where
+  code : isCode (s .code) ≡ true
+  currency : isCurrency (s .currency) ≡ true
+  duration : isDuration (s .kind) (s .duration) ≡ true
 
-  -- Its code and its currency stand in the sheet
-  pub turn-code : s .row .code + 12 ≤ length sheet
-  turn-code = rw (taken .from-line .held) (taken .from-line .placed .code-inside)
+formed : (s : paper.SecurityRow) → T (hold (securityKind [] .own s)) → Formed s
+formed s h = record { code = search tests; currency = search tests depth 8; duration = search tests depth 8 }
 
-  turn-coded : isCode (textAt 12 sheet (s .row .code)) ≡ true
-  turn-coded =
-      let line = taken .from-line in
-      ap (λ (p : Place). isCode (textAt 12 sheet p)) (ap (λ (r : SecurityRow). r .code) (line .held))
-      ∙ ap isCode (line .placed .code)
-      ∙ line .placed .coded
-
-  pub turn-currency : s .row .currency + 3 ≤ length sheet
-  turn-currency = rw (taken .from-line .held) (taken .from-line .placed .currency-inside)
-
-  -- Its currency stands above, or there is room for it
-  pub turn-known : (rankedOf sheet (take (money .count) (money .places)) (s .row .currency) .there || ltb (money .count) 8) ≡ true
-  turn-known =
-      ap (λ (n : ℕ). rankedOf sheet (take (money .count) (money .places)) (s .row .currency) .there || ltb n 8)
-      (sym (length-take-le (money .count) (money .places) (omega (arith, plain .money-few, plain .money-long))))
-      ∙ taken .known
-
-  pub plain-more : at < endedLength sheet
-      → Plain sheet (set rows count s) (set codes count (s .row .code)) (withMoney sheet money (s .row .currency)) (count + 1) next
-  plain-more h =
-      let (money-few, money-long, money-inside) = money-more sheet money (plain .money-few) (plain .money-long) (s .row .currency) (plain .money-inside) turn-currency turn-known in
-      let room : count < 200 = turn-room in
-      let codes-on = stored codes count (s .row .code) (omega (arith, plain .codes-long)) in
-      let rows-on = stored rows count s (omega (arith, plain .rows-long)) in
-      let currency : Security → Place = λ r. r .row .currency in
-      record {
-        within = rw (taken .from-line .behind) (line-there sheet at h .most);
-        few = omega arith;
-        rows-long = length-set rows count s ∙ plain .rows-long;
-        codes-long = length-set codes count (s .row .code) ∙ plain .codes-long;
-        money-few = money-few;
-        money-long = money-long;
-        codes-inside = subst (Within 12 sheet) (sym codes-on) (within-last 12 sheet (s .row .code) turn-code (plain .codes-inside));
-        codes-coded = subst (Coded sheet) (sym codes-on) (coded-last sheet (s .row .code) turn-coded (plain .codes-coded));
-        money-inside = money-inside;
-        rows-inside =
-            subst (Within 3 sheet) (sym (ap (map currency) rows-on ∙ map-append currency (take count rows) (s ∷ [])))
-            (within-last 3 sheet (s .row .currency) turn-currency (plain .rows-inside));
-        rising = subst (Rising sheet) (sym codes-on) (rising-last sheet (s .row .code) (plain .rising) (taken .rises));
-      }
-
--- ---- with given classes
-
--- One more step after the others
-turn-last : {A S : Type 0} (step : A → S → S) (xs : List A) (x : A) (s : S) → inTurn step (xs ++ (x ∷ [])) s ≡ step x (inTurn step xs s)
-turn-last step [] x s = refl
-turn-last step (y ∷ xs) x s = turn-last step xs x (step y s)
-
--- What agreeing tells of a row, and of a refusal
-module _ {P : paper.SecurityRow → Type 0} {row : paper.SecurityRow → Security} {next : Place} {count : ℕ} where
-  agreed-row : {f : SecurityFound} {o : Outcome paper.SecurityRow} → SecurityAgrees P row next count f o → (s : Security) (n : Place) → f ≡ found.Row s n
-      → (q : paper.SecurityRow) × P q × (o ≡ accepted q) × (s ≡ row q) × (n ≡ next)
-  agreed-row (security-row q p) s n e = (q, p, refl, cc, cc)
-  agreed-row (security-refused number) s n e = let z : _≡_ {A = ℕ} 0 1 = cc in absurd (omega arith)
-
-  agreed-refused : {f : SecurityFound} {o : Outcome paper.SecurityRow} → SecurityAgrees P row next count f o → (number : ℕ) → f ≡ found.Refused number → o ≡ refused number count
-  agreed-refused (security-row q p) number e = let z : _≡_ {A = ℕ} 0 1 = cc in absurd (omega arith)
-  agreed-refused (security-refused n) number e = cc
-
--- What stands in front of a table, changed, and the rest as it was
-padded-map : {H : Type 0} (f : H → H) (x : H) (most k : ℕ) (hs : List H) → length hs ≤ most
-    → map f (take (length hs) (take most (hs ++ replicate k x))) ++ drop (length hs) (take most (hs ++ replicate k x)) ≡ take most (map f hs ++ replicate k x)
-padded-map f x most k [] h = refl
-padded-map f x zero k (y ∷ hs) h = absurd (omega arith)
-padded-map f x (suc most) k (y ∷ hs) h = ap (λ (l : List _). f y ∷ l) (padded-map f x most k hs (omega arith))
-
--- Each row's currency is one that a row has
-each-has : (ss : List paper.SecurityRow) → Each (λ s. hasCurrency ss (s .currency) ≡ true) ss
-each-has [] = nil
-each-has (s ∷ ss) =
-    let its-own : hasCurrency (s ∷ ss) (s .currency) ≡ true = rw (same-refl (s .currency), firstThat) in
-    cons its-own
-    (each-map (λ r. behind (r .currency)) (each-has ss))
+-- A real day is one of 400 years
+day-low : (date : Date) → day date < 146_097
+day-low date = go (dayOf date) refl
   where
-    behind : (c : Currency) → hasCurrency ss c ≡ true → hasCurrency (s ∷ ss) c ≡ true
-    behind c e = go (same (s .currency) c) refl
-      where
-        go : (t : Bool) → same (s .currency) c ≡ t → hasCurrency (s ∷ ss) c ≡ true
-        go true k = rw (k, firstThat)
-        go false k = rw (k, firstThat) e
+    go : (o : Option Day) → dayOf date ≡ o → Option·getD o 0 < 146_097
+    go none e = omega arith
+    go (some d) e = day-below date d e
 
--- Rows whose currencies are among some, with the places of these
-rows-ranked : (sheet : Text) (cs : List paper.ClassRow) (money : List Place) (all : List paper.SecurityRow)
-    → map (textAt 3 sheet) money ≡ currencies all → (ss : List paper.SecurityRow) {from : Place} → EachFrom (Placed sheet) sheet from ss
-    → Each (λ s. hasCurrency all (s .currency) ≡ true) ss
-    → map (reranked sheet money) (heldFrom (unranked sheet cs) sheet from ss) ≡ heldFrom (heldFound sheet cs (currencies all)) sheet from ss
-rows-ranked sheet cs money all texts [] none-from nil = refl
-rows-ranked sheet cs money all texts (s ∷ ss) {from} (one-from p each) (cons has others) =
-    ap₂ (λ (n : ℕ) (l : List Security). record { row = unranked sheet cs from s .row; class = unranked sheet cs from s .class; currency = n } ∷ l)
-    (rank-is sheet money (fieldPlace sheet from 1) all (s .currency) texts (p .currency) has)
-    (rows-ranked sheet cs money all texts ss each others)
+-- Its numbers are in their ranges
+small : (sheet : Text) (at : Place) (s : paper.SecurityRow) → T (hold (securityKind [] .own s)) → Small (heldRow sheet at s)
+small sheet at s h =
+    let pays : (eqb (s .payments) 1 || eqb (s .payments) 2 || eqb (s .payments) 4) ≡ true = search tests in
+    record {
+      price = search tests;
+      coupon = search tests;
+      payments = bounds 1 4 (s .payments) (both (between 1 4 (s .payments)) (not (eqb (s .payments) 3)) (sym (payments-parts (s .payments)) ∙ pays) .0) .1;
+      previous = day-low (s .previous);
+      next = day-low (s .next);
+    }
 
-module _ (sheet : Text) (cs : List paper.ClassRow) (from : Place) where
-  -- How a section of these classes goes on
-  abbrev pub GoingOn : List Security → ℕ → Place → Type 0
-  GoingOn = Going sheet 83 10 readSecurity (securityRules cs) (unranked sheet cs) noSecurity 200 from
+-- Rows that keep the rules
+kept-facts : (cs : List paper.ClassRow) {above : List paper.SecurityRow} → Kept (securityKind cs) above → Each SecurityFacts above
+kept-facts cs none-kept = nil
+kept-facts cs (more-kept {r} {above} h kept) = cons (security-facts cs above r h) (kept-facts cs kept)
 
-  -- What the section gives
-  abbrev pub wholeOf : Outcome (List paper.SecurityRow × Rest)
-  wholeOf = whole sheet 83 10 readSecurity (securityRules cs) (unranked sheet cs) noSecurity 200 from
+currencied : {above : List paper.SecurityRow} → Each SecurityFacts above → Each Currencied above
+currencied = each-map (λ s f. f .currency)
 
-  -- The tables hold the rows above, their codes and their currencies
-  pub record Held (rows : List Security) (codes : List Place) (money : Currencies) (count : ℕ) (at : Place) : Type 0 where
-    pub going : GoingOn rows count at
-    pub codes-table : codes ≡ padded 200 0 (heldFrom (λ at s. fieldPlace sheet at 0) sheet from (reverse (going .above)))
-    pub money-table : money ≡ moneyFrom sheet from (reverse (going .above))
-    pub code-texts : map (textAt 12 sheet) (take count codes) ≡ map (λ s. s .code) (reverse (going .above))
-    pub money-texts : map (textAt 3 sheet) (take (money .count) (money .places)) ≡ currencies (going .above)
-    pub each : EachFrom (Placed sheet) sheet from (reverse (going .above))
+-- There is room for them
+kept-most : (cs : List paper.ClassRow) {above : List paper.SecurityRow} → Kept (securityKind cs) above → length above ≤ 200
+kept-most cs none-kept = omega arith
+kept-most cs (more-kept {above} h kept) = let less : length above < 200 = search tests in less
 
-  pub held-start : from ≤ endedLength sheet → Held (replicate 200 noSecurity) (replicate 200 0) noMoney 0 from
-  unfolding going-start
-  held-start h =
-      let empty : Place = 0 in
-      record {
-        going = going-start sheet 83 10 readSecurity (securityRules cs) (unranked sheet cs) noSecurity 200 from h;
-        codes-table = sym (padded-none 200 empty);
-        money-table = refl;
-        code-texts = refl;
-        money-texts = refl;
-        each = none-from;
-      }
+-- ... and for the currency of the last
+eighth : (cs : List paper.ClassRow) {above : List paper.SecurityRow} {s : paper.SecurityRow} → Kept (securityKind cs) (s ∷ above)
+    → T (hasCurrency above (s .currency) || ltb (length (currencies above)) 8)
+eighth cs (more-kept h kept) = search tests depth 8
 
-  -- A turn that takes a row of the paper
-  module _ {rows : List Security} {codes : List Place} {money : Currencies} {count : ℕ} {at : Place}
-      (held : Held rows codes money count at) (plain : Plain sheet rows codes money count at) (s : paper.SecurityRow) (p : Placed sheet at s)
-      (room : count < 200) where
-    -- As many rows as the code counts
-    rows-many : count ≡ length (reverse (held .going .above))
-    rows-many = held .going .counted ∙ sym (length-reverse (held .going .above))
+-- What is true of each is true of each in the reverse order
+each-last : {A : Type 0} {P : A → Type 0} {xs : List A} {x : A} → Each P xs → P x → Each P (xs ++ (x ∷ []))
+each-last nil p = cons p nil
+each-last (cons q each) p = cons q (each-last each p)
 
-    -- The line is the one behind them
-    line-behind : at ≡ nextAfter sheet from (length (reverse (held .going .above)))
-    line-behind = held .going .placed ∙ ap (nextAfter sheet from) rows-many
+each-reverse : {A : Type 0} {P : A → Type 0} {xs : List A} → Each P xs → Each P (reverse xs)
+each-reverse nil = nil
+each-reverse {P} (cons {a} {rest} p each) = subst (Each P) (sym (reverse-cons a rest)) (each-last (each-reverse each) p)
 
-    money-on : withMoney sheet money (fieldPlace sheet at 1) ≡ moneyFrom sheet from (reverse (s ∷ held .going .above))
-    money-on =
-        let place : Place → paper.SecurityRow → Place = λ at s. fieldPlace sheet at 1 in
-        let step : Place → Currencies → Currencies = λ at c. withMoney sheet c at in
-        let rs = reverse (held .going .above) in
-        let hs = heldFrom place sheet from rs in
-        ap₂ (λ (c : Currencies) (a : Place). withMoney sheet c (fieldPlace sheet a 1)) (held .money-table) line-behind
-        ∙ sym (turn-last step hs (fieldPlace sheet (nextAfter sheet from (length rs)) 1) noMoney)
-        ∙ ap (λ (l : List Place). inTurn step l noMoney) (sym (held-more place sheet from rs s))
-        ∙ ap (moneyFrom sheet from) (sym (reverse-cons s (held .going .above)))
+-- A row as it is held before the place of its currency is known
+abbrev unranked : List paper.ClassRow → paper.SecurityRow → Security
+unranked cs s =
+    record {
+      price = s .price;
+      coupon = s .coupon;
+      payments = s .payments;
+      previous = day (s .previous);
+      next = day (s .next);
+      class = Option·getD (classOf cs (s .kind) (s .duration)) 0;
+      currency = 0;
+    }
 
-    texts-on : map (textAt 12 sheet) (take (count + 1) (set codes count (fieldPlace sheet at 0))) ≡ map (λ s. s .code) (reverse (s ∷ held .going .above))
-    texts-on =
-        let code : paper.SecurityRow → Text = λ s. s .code in
-        ap (map (textAt 12 sheet)) (stored codes count (fieldPlace sheet at 0) (omega (arith, plain .codes-long)))
-        ∙ map-append (textAt 12 sheet) (take count codes) (fieldPlace sheet at 0 ∷ [])
-        ∙ ap₂ (λ (l : List Text) (t : Text). l ++ (t ∷ [])) (held .code-texts) (p .code)
-        ∙ sym (map-append code (reverse (held .going .above)) (s ∷ []))
-        ∙ ap (map code) (sym (reverse-cons s (held .going .above)))
+-- The numbers of its code and its currency
+abbrev codeOf : paper.SecurityRow → ℕ
+codeOf s = codeNumber (s .code)
 
-    -- The currencies with the row's
-    placed-on : (rankedOf sheet (take (money .count) (money .places)) (fieldPlace sheet at 1) .there || ltb (money .count) 8) ≡ true
-        → let next = withMoney sheet money (fieldPlace sheet at 1) in
-        map (textAt 3 sheet) (take (next .count) (next .places)) ≡ currencies (s ∷ held .going .above)
-    placed-on known = go (hasCurrency above (s .currency)) refl
-      where
-        above : List paper.SecurityRow
-        above = held .going .above
+abbrev ownMoney : paper.SecurityRow → ℕ
+ownMoney s = currencyNumber (s .currency)
 
-        first : List Place
-        first = take (money .count) (money .places)
+-- The rows of a table with the places of their currencies
+ranked-rows : (cs : List paper.ClassRow) (all : List Currency) (most : ℕ) (ss : List paper.SecurityRow) (free : List Security)
+    → Each (λ s. rankedOf (map currencyNumber all) (ownMoney s) .there ≡ true) ss
+    → withRank (map currencyNumber all) (map ownMoney ss) (take most (map (unranked cs) ss ++ free)) ≡ take most (map (heldSecurity cs all) ss ++ free)
+ranked-rows cs all most [] free nil = refl
+ranked-rows cs all zero (s ∷ ss) free each = refl
+ranked-rows cs all (suc most) (s ∷ ss) free (cons t each) =
+    let placed = rank-place (ownMoney s) (map currencyNumber all) t in
+    let rest = ranked-rows cs all most ss free each in
+    λ i. record {
+      price = s .price;
+      coupon = s .coupon;
+      payments = s .payments;
+      previous = day (s .previous);
+      next = day (s .next);
+      class = Option·getD (classOf cs (s .kind) (s .duration)) 0;
+      currency = placed i;
+    } ∷ rest i
 
-        at-place : Place
-        at-place = fieldPlace sheet at 1
+-- After so many rows
+pub record Turn (cs : List paper.ClassRow) (sheet : Text) (from : Place) (rows : List Security) (codes money : List ℕ) (held : Currencies)
+    (last count : ℕ) (at : Place) : Type 0 where
+  pub above : List paper.SecurityRow
+  pub going : Going (securityKind cs) sheet from above count at
+  pub table : rows ≡ tableOf 200 noSecurity (unranked cs) (reverse above)
+  pub codes-are : codes ≡ tableOf 256 highest codeOf (reverse above)
+  pub money-are : money ≡ tableOf 200 0 ownMoney (reverse above)
+  pub held-are : held ≡ currencyTable (currencies above)
+  pub few : length (currencies above) ≤ 8
+  pub last-is : last ≡ lastOf above
 
-        by : Bool → Currencies
-        by t = elim t [ true ↦ money | false ↦ insertedAt money (rankedOf sheet first at-place .rank) at-place ]
+pub turn-start : (cs : List paper.ClassRow) (sheet : Text) (from : Place) → from ≤ endedLength sheet
+    → Turn cs sheet from (securityTable [] [] .rows) (securityTable [] [] .codes) (tableOf 200 0 ownMoney []) (securityTable [] [] .currencies) 0 0 from
+turn-start cs sheet from h =
+    record {
+      above = [];
+      going = going-start (securityKind cs) sheet from h;
+      table = refl;
+      codes-are = refl;
+      money-are = refl;
+      held-are = refl;
+      few = omega arith;
+      last-is = refl;
+    }
 
-        there : rankedOf sheet first at-place .there ≡ hasCurrency above (s .currency)
-        there = rank-has sheet first at-place above (s .currency) (held .money-texts) (p .currency)
+-- The section, as the code holds it
+abbrev made : Section → Securities → SecuritySection
+made section table = record { section = section; table = table }
 
-        go : (t : Bool) → hasCurrency above (s .currency) ≡ t
-            → map (textAt 3 sheet) (take (by (rankedOf sheet first at-place .there) .count) (by (rankedOf sheet first at-place .there) .places)) ≡ currencies (s ∷ above)
-        go true e =
-            ap (λ (t : Bool). map (textAt 3 sheet) (take (by t .count) (by t .places))) (there ∙ e)
-            ∙ held .money-texts ∙ sym (has-currency above (s .currency) e)
-        go false e =
-            ap (λ (t : Bool). map (textAt 3 sheet) (take (by t .count) (by t .places))) (there ∙ e)
-            ∙ inserted-currencies sheet money at-place above (s .currency)
-            (omega (arith, has-room sheet money (plain .money-few) (plain .money-long) at-place (there ∙ e) known, plain .money-long))
-            (held .money-texts) (p .currency) e
+abbrev pub result : List paper.ClassRow → Text → Place → SecuritySection
+result cs sheet from = loops.result (securityKind cs) sheet from made (securityTable cs)
 
-    each-on : EachFrom (Placed sheet) sheet from (reverse (s ∷ held .going .above))
-    each-on =
-        subst (EachFrom (Placed sheet) sheet from) (sym (reverse-cons s (held .going .above)))
-        (each-more (Placed sheet) sheet s (held .each) (subst (λ (a : Place). Placed sheet a s) line-behind p))
+-- Where the currency of a row stands among those held, and the class that is found for it
+abbrev pub standingIn : Currencies → SecurityRow → Standing
+standingIn held s = rankedOf (take (held .count) (held .numbers)) (s .currency)
 
-    pub held-on : (e : goesOn sheet at (endedLength sheet) 83 ≡ true)
-        → (rankedOf sheet (take (money .count) (money .places)) (fieldPlace sheet at 1) .there || ltb (money .count) 8) ≡ true
-        → row (83 ∷ []) 10 readSecurity (securityRules cs (held .going .above)) count (fieldsAt sheet at) ≡ accepted s
-        → Held (set rows count (unranked sheet cs at s)) (set codes count (fieldPlace sheet at 0)) (withMoney sheet money (fieldPlace sheet at 1)) (count + 1) (lineAt sheet at .next)
-    unfolding going-on
-    held-on e known judged =
-        record {
-          going = going-on sheet 83 10 readSecurity (securityRules cs) (unranked sheet cs) noSecurity 200 from (held .going) e s judged room;
-          codes-table =
-              table-more (λ at s. fieldPlace sheet at 0) sheet from 0 200 (held .going .above) (held .codes-table) (held .going .counted) s at (held .going .placed) room;
-          money-table = money-on;
-          code-texts = texts-on;
-          money-texts = placed-on known;
-          each = each-on;
-        }
+abbrev pub classFor : Classes → SecurityRow → Class
+classFor t s =
+    let all = columnsOf (t .rows) in
+    classIn (take (t .count) (all .kinds)) (take (t .count) (all .borders)) (take (t .count) (all .numbers)) (s .kind) (s .duration)
 
-  -- A turn, for classes that the code knows
-  module _ {rows : List Security} {codes : List Place} {money : Currencies} {count : ℕ} {at : Place}
-      (held : Held rows codes money count at) (kinds borders numbers : List ℕ) (bordered : Bordered kinds borders numbers cs)
-      (e : goesOn sheet at (endedLength sheet) 83 ≡ true) where
-    -- The line as the code judges it, and as the paper does
-    abbrev pub judgedTurn : SecurityFound
-    judgedTurn = securityJudged sheet kinds borders numbers (take count codes) (take (money .count) (money .places)) (securityRead sheet at)
+-- A row below rows that keep the rules
+module _ (classes : Classes) (within : ranged classes ≡ true) (above : List paper.SecurityRow) (facts : Each SecurityFacts above)
+    (few : length (currencies above) ≤ 8) (s : paper.SecurityRow) (form : Formed s) (sheet : Text) (at : Place) where
+  abbrev cs : List paper.ClassRow
+  cs = paperClasses classes
 
-    abbrev paperTurn : Outcome paper.SecurityRow
-    paperTurn = row (83 ∷ []) 10 readSecurity (securityRules cs (held .going .above)) count (fieldsAt sheet at)
+  -- Its class is the paper's
+  its-class : Classed (classFor classes (heldRow sheet at s)) (classOf cs (s .kind) (s .duration))
+  its-class = table-classed (s .kind) (s .duration) (form .duration) classes within
 
-    turn-agrees : SecurityAgrees (Placed sheet at) (unranked sheet cs at) (lineAt sheet at .next) count judgedTurn paperTurn
-    turn-agrees =
-        let above = held .going .above in
-        let (there, begun) = both (ltb at (endedLength sheet)) (begins (83 ∷ []) (fieldsAt sheet at)) e in
-        subst (λ (n : ℕ). SecurityAgrees (Placed sheet at) (unranked sheet cs at) (lineAt sheet at .next) n judgedTurn
-        (row (83 ∷ []) 10 readSecurity (securityRules cs above) n (fieldsAt sheet at))) (sym (held .going .counted))
-        (security-agrees sheet kinds borders numbers cs bordered (take count codes) (take (money .count) (money .places)) above (held .code-texts) (held .money-texts) at (ltb-true at (endedLength sheet) there) begun)
+  -- Its currency stands where its number does
+  its-standing : standingIn (currencyTable (currencies above)) (heldRow sheet at s) ≡ rankedOf (moneyOf above) (ownMoney s)
+  its-standing = ap (λ (ns : List ℕ). rankedOf ns (ownMoney s)) (table-front 8 0 currencyNumber (currencies above) few)
 
-    pub held-turn : Plain sheet rows codes money count at → (s : Security) (next : Place) → judgedTurn ≡ found.Row s next
-        → Taken sheet (take count codes) (take (money .count) (money .places)) at s next
-        → Held (set rows count s) (set codes count (s .row .code)) (withMoney sheet money (s .row .currency)) (count + 1) next
-    held-turn plain s next j taken =
-        let (q, p, accepts, same, behind) = agreed-row turn-agrees s next j in
-        subst (Held (set rows count s) (set codes count (s .row .code)) (withMoney sheet money (s .row .currency)) (count + 1)) (sym behind)
-        (subst (λ (s : Security). Held (set rows count s) (set codes count (s .row .code)) (withMoney sheet money (s .row .currency)) (count + 1) (lineAt sheet at .next)) (sym same)
-        (held-on held plain q p (turn-room plain taken) e (rw same at (turn-known plain taken)) accepts))
+  -- It is judged as the paper judges it
+  alike : brokenOf (length above) (standingIn (currencyTable (currencies above)) (heldRow sheet at s) .there) (length (currencies above)) (lastOf above) (codeOf s) (classFor classes (heldRow sheet at s))
+      ≡ broken (securityKind cs .others above s)
+  alike =
+      let eight = ap (λ (s : Standing). s .there) its-standing ∙ rank-has above (currencied facts) (s .currency) (form .currency) in
+      let nine = last-before above facts s (form .code) in
+      let eleven = class-given its-class in
+      λ i. broken ((8, ltb (length above) 200 && (eight i || ltb (length (currencies above)) 8)) ∷ (9, nine i) ∷ (11, eleven i) ∷ [])
 
-    pub held-refused : (number : ℕ) → judgedTurn ≡ found.Refused number → wholeOf ≡ refused number count
-    held-refused number j =
-        going-refused sheet 83 10 readSecurity (securityRules cs) (unranked sheet cs) noSecurity 200 from (held .going) e number count (agreed-refused turn-agrees number j)
+module _ (classes : Classes) (within : ranged classes ≡ true) {sheet : Text} {from : Place} {rows : List Security} {codes money : List ℕ}
+    {held : Currencies} {last count : ℕ} {at : Place} (t : Turn (paperClasses classes) sheet from rows codes money held last count at) where
+  abbrev its-classes : List paper.ClassRow
+  its-classes = paperClasses classes
+
+  facts : Each SecurityFacts (t .above)
+  facts = kept-facts (paperClasses classes) (t .going .kept)
+
+  module _ (on : goesOn sheet at (endedLength sheet) 83 ≡ true) where
+    -- A line that is refused by itself refuses the section
+    pub turn-refused : (number : ℕ) → securityRead sheet at ≡ reads.Refused number
+        → securitySection [] [] 0 (refused number count) ≡ result (paperClasses classes) sheet from
+    turn-refused number e =
+        result-refused (securityKind (paperClasses classes)) sheet from made (securityTable (paperClasses classes)) number count
+        (line-refused (securityKind (paperClasses classes)) (λ above c. refl) 83 refl words (heldRow sheet at) (t .going) on number e)
+
+    -- A row that was read
+    abbrev pub Read : SecurityRow → Place → Type 0
+    Read = LineRow (securityKind (paperClasses classes)) (λ above c. refl) 83 refl words (heldRow sheet at) (t .going) on
+
+    pub turn-row : (s : SecurityRow) (next : Place) → securityRead sheet at ≡ reads.Row s next → Read s next
+    turn-row = line-row (securityKind (paperClasses classes)) (λ above c. refl) 83 refl words (heldRow sheet at) (t .going) on
+
+    module _ {s : SecurityRow} {next : Place} (r : Read s next) where
+      -- It is judged as the paper judges it
+      same : brokenOf count (standingIn held s .there) (held .count) last (s .number) (classFor classes s) ≡ broken (securityKind (paperClasses classes) .others (t .above) (r .row-is))
+      same =
+          rw (t .held-are, t .going .counted, t .last-is, sym (r .held-is))
+          (alike classes within (t .above) facts (t .few) (r .row-is) (formed (r .row-is) (r .own)) sheet at)
+
+      -- It fits the table
+      pub turn-small : Small s
+      turn-small = rw (sym (r .held-is)) (small sheet at (r .row-is) (r .own))
+
+      classed : Classed (classFor classes s) (classOf (paperClasses classes) (r .row-is .kind) (r .row-is .duration))
+      classed = rw (sym (r .held-is)) (its-class classes within (t .above) facts (t .few) (r .row-is) (formed (r .row-is) (r .own)) sheet at)
+
+      pub turn-class : classFor classes s ≤ 40
+      turn-class = class-most classed
+
+      -- A rule that it breaks refuses the section
+      pub turn-broken : (number : ℕ) → number ≡ brokenOf count (standingIn held s .there) (held .count) last (s .number) (classFor classes s) → (number ≡ 0 → ⊥)
+          → securitySection [] [] 0 (refused number count) ≡ result (paperClasses classes) sheet from
+      turn-broken number is other =
+          ap (λ (n : ℕ). securitySection [] [] 0 (refused n count)) (is ∙ same)
+          ∙ result-refused (securityKind (paperClasses classes)) sheet from made (securityTable (paperClasses classes)) _ count (r .refuses (λ none. other (is ∙ same ∙ none)))
+
+      -- Where it breaks none the section goes on
+      module _ (none : brokenOf count (standingIn held s .there) (held .count) last (s .number) (classFor classes s) ≡ 0) where
+        on-with-it : Going (securityKind (paperClasses classes)) sheet from (r .row-is ∷ t .above) (count + 1) next
+        on-with-it = r .goes (sym same ∙ none)
+
+        pub turn-free : count < 200
+        turn-free = omega (arith, t .going .counted, kept-most (paperClasses classes) (on-with-it .kept))
+
+        -- The currencies held, with its own
+        module _ (st : Standing) (stands : st ≡ standingIn held s) where
+          form : Formed (r .row-is)
+          form = formed (r .row-is) (r .own)
+
+          standing-is : rankedOf (moneyOf (t .above)) (ownMoney (r .row-is)) ≡ st
+          standing-is =
+              sym (stands ∙ rw (t .held-are, sym (r .held-is)) (its-standing classes within (t .above) facts (t .few) (r .row-is) form sheet at))
+
+          there-is : rankedOf (moneyOf (t .above)) (ownMoney (r .row-is)) .there ≡ st .there
+          there-is = ap (λ (s : Standing). s .there) standing-is
+
+          pub turn-room : st .there ≡ false → held .count < 8
+          turn-room e =
+              let has = sym (rank-has (t .above) (currencied facts) (r .row-is .currency) (form .currency)) ∙ there-is ∙ e in
+              rw (t .held-are) (ltb→lt (length (currencies (t .above))) 8 (rw has at (eighth (paperClasses classes) (on-with-it .kept))))
+
+          pub turn-known : st .there ≡ true → held ≡ currencyTable (currencies (r .row-is ∷ t .above))
+          turn-known e = t .held-are ∙ ap currencyTable (sym (money-known (t .above) (currencied facts) (r .row-is) (form .currency) (there-is ∙ e)))
+
+          pub turn-new : st .there ≡ false → insertedAt held (st .rank) (s .currency) ≡ currencyTable (currencies (r .row-is ∷ t .above))
+          turn-new e =
+              rw (t .held-are, sym standing-is, sym (r .held-is)) (money-new (t .above) (currencied facts) (r .row-is) (form .currency) (there-is ∙ e))
+
+          few-more : length (currencies (r .row-is ∷ t .above)) ≤ 8
+          few-more = go (st .there) refl
+            where
+              go : (b : Bool) → st .there ≡ b → length (currencies (r .row-is ∷ t .above)) ≤ 8
+              go true e = rw (money-known (t .above) (currencied facts) (r .row-is) (form .currency) (there-is ∙ e)) (t .few)
+              go false e =
+                  omega (arith, money-longer (t .above) (currencied facts) (r .row-is) (form .currency) (there-is ∙ e), turn-room e, ap (λ (c : Currencies). c .count) (t .held-are))
+
+          pub turn-more : (more : Currencies) → more ≡ currencyTable (currencies (r .row-is ∷ t .above))
+              → Turn (paperClasses classes) sheet from (set rows count (securityOf s (classFor classes s))) (set codes count (s .number)) (set money count (s .currency)) more (s .number) (count + 1) next
+          turn-more more is =
+              record {
+                above = r .row-is ∷ t .above;
+                going = on-with-it;
+                table =
+                    ap (set rows count) (ap₂ securityOf (sym (r .held-is)) (class-is classed))
+                    ∙ table-more 200 noSecurity (unranked (paperClasses classes)) (t .above) (t .table) (t .going .counted) (r .row-is) turn-free;
+                codes-are =
+                    ap (λ (s : SecurityRow). set codes count (s .number)) (sym (r .held-is))
+                    ∙ table-more 256 highest codeOf (t .above) (t .codes-are) (t .going .counted) (r .row-is) (omega (arith, turn-free));
+                money-are =
+                    ap (λ (s : SecurityRow). set money count (s .currency)) (sym (r .held-is))
+                    ∙ table-more 200 0 ownMoney (t .above) (t .money-are) (t .going .counted) (r .row-is) turn-free;
+                held-are = is;
+                few = few-more;
+                last-is = ap (λ (s : SecurityRow). s .number) (sym (r .held-is));
+              }
+
+  pub turn-most : (count ≤ 200) × (held .count ≤ 8)
+  turn-most = (omega (arith, t .going .counted, kept-most (paperClasses classes) (t .going .kept)), rw (t .held-are) (t .few))
 
   -- The end of the section
-  module _ {rows : List Security} {codes : List Place} {money : Currencies} {count : ℕ} {at : Place}
-      (held : Held rows codes money count at) (plain : Plain sheet rows codes money count at)
-      (e : goesOn sheet at (endedLength sheet) 83 ≡ false) where
-    abbrev ss : List paper.SecurityRow
-    ss = reverse (held .going .above)
-
-    -- The table as the code gives it
-    abbrev pub ended : Securities
-    ended =
-        record {
-          refusal = 0;
-          count = count;
-          rows = map (reranked sheet (take (money .count) (money .places))) (take count rows) ++ drop count rows;
-          codes = codes;
-          currencies = money;
-          next = at;
-        }
-
-    section-ended : wholeOf ≡ accepted (ss, (count, lines (drop at sheet)))
-    section-ended = going-ended sheet 83 10 readSecurity (securityRules cs) (unranked sheet cs) noSecurity 200 from (held .going) e
-
-    texts-all : map (textAt 3 sheet) (take (money .count) (money .places)) ≡ currencies ss
-    texts-all = held .money-texts ∙ sym (currencies-reverse (held .going .above))
-
-    ended-count : count ≡ length ss
-    ended-count = held .going .counted ∙ sym (length-reverse (held .going .above))
-
-    ended-rows : map (reranked sheet (take (money .count) (money .places))) (take count rows) ++ drop count rows
-        ≡ padded 200 noSecurity (heldFrom (heldFound sheet cs (currencies ss)) sheet from ss)
-    ended-rows =
-        let f = reranked sheet (take (money .count) (money .places)) in
-        let hs = heldFrom (unranked sheet cs) sheet from ss in
-        let many : count ≡ length hs = ended-count ∙ sym (held-length (unranked sheet cs) sheet from ss) in
-        ap (λ (l : List Security). map f (take count l) ++ drop count l) (held .going .table)
-        ∙ ap (λ (n : ℕ). map f (take n (padded 200 noSecurity hs)) ++ drop n (padded 200 noSecurity hs)) many
-        ∙ padded-map f noSecurity 200 200 hs (omega (arith, plain .few))
-        ∙ ap (padded 200 noSecurity) (rows-ranked sheet cs (take (money .count) (money .places)) ss texts-all ss (held .each) (each-has ss))
-
-    pub ended-held : ended ≡ heldSecurities sheet cs from wholeOf
-    ended-held =
-        let next-line : at ≡ nextAfter sheet from (length ss) = held .going .placed ∙ ap (nextAfter sheet from) ended-count in
-        (λ i. record {
-          refusal = 0;
-          count = ended-count i;
-          rows = ended-rows i;
-          codes = held .codes-table i;
-          currencies = held .money-table i;
-          next = next-line i;
-        })
-        ∙ ap (heldSecurities sheet cs from) (sym section-ended)
-
-    pub ended-findable : FindableIn sheet ended wholeOf
-    ended-findable all rest accepts =
-        let same : ss ≡ all = ap (λ (read : List paper.SecurityRow × Rest). read .0) (accepted-one (sym section-ended ∙ accepts)) in
-        record {
-          few = plain .few;
-          coded = plain .codes-coded;
-          rising = plain .rising;
-          texts = held .code-texts ∙ ap (map (λ s. s .code)) same;
-          money-few = plain .money-few;
-          money-inside = plain .money-inside;
-          money-texts = texts-all ∙ ap currencies same;
-        }
-
--- A section that is refused: its empty table
-pub refused-held : (sheet : Text) (cs : List paper.ClassRow) (from : Place) (number count : ℕ) → wholeOf sheet cs from ≡ refused number count
-    → _≡_ {A = Securities} (record {
-      refusal = number;
-      count = count;
-      rows = replicate 200 noSecurity;
-      codes = replicate 200 0;
-      currencies = noMoney;
-      next = 0;
-    })
-    (heldSecurities sheet cs from (wholeOf sheet cs from))
-refused-held sheet cs from number count e = ap (heldSecurities sheet cs from) (sym e)
-
-pub refused-findable : (sheet : Text) (cs : List paper.ClassRow) (from : Place) (number count : ℕ) (t : Securities)
-    → wholeOf sheet cs from ≡ refused number count → FindableIn sheet t (wholeOf sheet cs from)
-refused-findable sheet cs from number count t e ss rest accepts = not-accepted (sym e ∙ accepts)
+  pub turn-ended : goesOn sheet at (endedLength sheet) 83 ≡ false
+      → made (record { refusal = 0; count = count; next = at })
+      (record { count = count; rows = withRank (take (held .count) (held .numbers)) (take count money) rows; codes = codes; currencies = held })
+      ≡ result (paperClasses classes) sheet from
+  turn-ended off =
+      let ss = reverse (t .above) in
+      let many : count ≡ length ss = t .going .counted ∙ sym (length-reverse (t .above)) in
+      let all : currencies ss ≡ currencies (t .above) = currencies-reverse (t .above) in
+      let numbers : take (held .count) (held .numbers) ≡ map currencyNumber (currencies ss) = rw (t .held-are, all) (table-front 8 0 currencyNumber (currencies (t .above)) (t .few)) in
+      let own : take count money ≡ map ownMoney ss = rw (t .money-are, many) (table-front 200 0 ownMoney ss (omega (arith, turn-most .0))) in
+      let each = subst (λ (ds : List Currency). Each (λ s. rankedOf (map currencyNumber ds) (ownMoney s) .there ≡ true) ss) (sym all) (each-reverse (each-there (t .above) (currencied facts))) in
+      let ranks : withRank (take (held .count) (held .numbers)) (take count money) rows ≡ tableOf 200 noSecurity (heldSecurity (paperClasses classes) (currencies ss)) ss =
+      rw (numbers, own, t .table) (ranked-rows (paperClasses classes) (currencies ss) 200 ss (replicate 200 noSecurity) each)
+      in
+      let held-is : held ≡ currencyTable (currencies ss) = t .held-are ∙ ap currencyTable (sym all) in
+      result-ended (securityKind (paperClasses classes)) sheet from made (securityTable (paperClasses classes)) (t .going)
+      (going-ended (securityKind (paperClasses classes)) (λ above c. refl) 83 refl (t .going) off) _
+      (λ i. record { count = many i; rows = ranks i; codes = t .codes-are i; currencies = held-is i })

@@ -1,1 +1,5 @@
-pub mod Tables
+pub mod Over
+pub mod Read
+pub mod Classes
+pub mod Ranks
+pub mod Section

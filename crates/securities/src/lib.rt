@@ -1,238 +1,407 @@
-// The S section of a sheet: a loop over its lines that fills a table, or ends with the refusal of a row.
-// A security carries its class, and the place of its currency among the rising ones.
+// S rows: read from their lines, judged by those above and by the C rows, and put into their table, each with its class and the
+// place of its currency among the rising ones; the section is their table, or the refusal of one.
+use days::Day;
 use fields::Place;
-use fields::Value;
-use rows::DateRow;
-use rows::Day;
-use rows::Number;
-use rows::SecurityRead;
-use rows::SecurityRow;
-use searches::Currencies;
+use sections::Number;
+use sections::Section;
+use tables::Classes;
+use tables::Code;
+use tables::Currencies;
+use tables::Money;
+use tables::Securities;
+use tables::Security;
 ghost use mathlib.Core.Path.{_≡_};
-ghost use mathlib.Core.Bool.{true, _||_};
-ghost use lib.Dec.{ltb};
-ghost use mathlib.Core.List.{List, _++_, map};
-ghost use Prim.Native.Nat.{_+_, _≤_, _<_};
+ghost use mathlib.Core.Bool.{true};
+ghost use mathlib.Core.List.{[]};
+ghost use Prim.Native.Nat.{_≤_, _<_};
 ghost use lib.ListN.{length, take, drop};
 ghost use Rattle.paper.specs.Days.{newYears};
-ghost use Rattle.paper.specs.Text.{ascii, lines};
-ghost use Rattle.paper.specs.Rows.{ClassRow, readSecurity};
-ghost use Rattle.paper.specs.Refusals.{securityRules};
+ghost use Rattle.paper.specs.Refusals.{refused, securityKind};
+ghost use Rattle.paper.specs.Text.{lines};
 ghost use Rattle.paper.specs.Sheet.{section};
 ghost use Rattle.fields.specs.Places.{endedLength};
-ghost use Rattle.rows.specs.Reads.{securityRead};
-ghost use Rattle.searches.specs.Searches.{Within, rankedOf};
-ghost use Rattle.securities.specs.Tables.{Bordered, FindableIn, noSecurity, heldSecurities, foundNumber, securityJudged, withMoney, reranked};
+ghost use Rattle.tables.specs.Numbers.{kindNumber};
+ghost use Rattle.tables.specs.Back.{kindOf, paperClasses, ranged};
+ghost use Rattle.securities.specs.Read.{takenOf, securityRead, securityNumber};
+ghost use Rattle.securities.specs.Classes.{columnsOf, classIn};
+ghost use Rattle.securities.specs.Ranks.{rankedOf, insertedAt, withRank};
+ghost use Rattle.securities.specs.Section.{securitySection, brokenOf, Small, securityOf};
 
-// A security with what judging its row found out.
-pub struct Security {
-    pub row: SecurityRow,
-    pub class: u64, // 1..40
-    pub currency: usize, // its place among the rising currencies
+// An S row.
+pub struct SecurityRow {
+    pub code: Place, // where it stands
+    pub number: Code,
+    pub currency: Money,
+    pub kind: u64, // as of a class
+    pub duration: u64, // ten-thousandths of a year; 0 for a kind that has none
+    pub price: u64, // hundred-thousandths of a percent
+    pub coupon: u64, // hundred-thousandths of a percent a year
+    pub payments: u64, // a year
+    pub previous: Day, // coupon
+    pub next: Day, // coupon
 }
 
-pub enum SecurityFound {
-    Row(Security, Place),
+// A row and where the next line starts, or the row's refusal.
+pub enum SecurityRead {
+    Row(SecurityRow, Place),
     Refused(Number),
 }
 
-// The S rows, and where the next section starts; or the refusal of the row behind them, and an empty table.
-pub struct Securities {
-    pub refusal: Number, // 0 where none
-    pub count: usize, // rows
-    pub rows: [Security; 200],
-    pub codes: [Place; 200],
-    pub currencies: Currencies,
-    pub next: Place,
+// The classes of a table by kind, border and number, as a search wants them.
+pub struct Columns {
+    pub kinds: [u64; 40], // by their numbers
+    pub borders: [u64; 40], // ten-thousandths of a year
+    pub numbers: [u64; 40], // 1..40
 }
 
-// What stands where the table has no row.
-fn no_security() -> Security
-    ensures { λ r. ⌜ r ≡ noSecurity ⌝ }
-{
-    let row = SecurityRow {
-        code: 0,
-        currency: 0,
-        kind: 0,
-        duration: 0,
-        price: 0,
-        coupon: 0,
-        payments: 0,
-        previous: DateRow { date: 0, day: 0 },
-        next: DateRow { date: 0, day: 0 },
-    };
-    Security {
-        row: row,
-        class: 0,
-        currency: 0,
-    }
+// Where a currency stands among the rising ones, or would stand.
+pub struct Standing {
+    pub rank: usize, // currencies before it
+    pub there: bool,
 }
 
-// The number of a refusal, 0 for a row.
-fn found_number(found: SecurityFound) -> Number
-    ensures { λ r. ⌜ r ≡ foundNumber found ⌝ }
-{
-    match found {
-        SecurityFound::Row(_, _) => 0,
-        SecurityFound::Refused(number) => number,
-    }
+// The section: how it went, and its rows; none where it is refused.
+pub struct SecuritySection {
+    pub section: Section,
+    pub table: Securities,
 }
 
-// An S row with those above it: its fields, then 8, 9 and 11. The place of its currency is given when all rows are read.
-fn security_at(
-    s: &[u8],
-    years: &[Day; 400],
-    at: Place,
-    end: Place,
-    kinds: &[u64; 40], // of the classes, by their numbers
-    borders: &[u64; 40], // ten-thousandths of a year
-    numbers: &[u64; 40], // 1..40
-    classes: usize, // how many
-    codes: &[Place; 200], // of the rows above
-    count: usize, // rows above
-    money: &[Place; 8], // the currencies above, rising
-    currencies: usize, // how many
-) -> SecurityFound
-    requires { ⌜ (at < end) × (end ≡ endedLength (now s)) × (now years ≡ newYears) × (classes ≤ 40) × (count ≤ 200) × (currencies ≤ 8) ⌝ }
-    requires { ⌜ (length (now codes) ≡ 200) × (length (now money) ≡ 8) × Within 12 (now s) (take count (now codes)) × Within 3 (now s) (take currencies (now money)) ⌝ }
-    ensures { λ r. ⌜ r ≡ securityJudged (now (s .entry)) (take classes (now (kinds .entry))) (take classes (now (borders .entry))) (take classes (now (numbers .entry))) (take count (now (codes .entry))) (take currencies (now (money .entry))) (securityRead (now (s .entry)) at) ⌝ }
+// A row, or its refusal: by the fields that are no dates, then by the dates.
+fn taken(six: bool, seven: bool, row: SecurityRow, next: Place) -> SecurityRead
+    ensures { λ r. ⌜ r ≡ takenOf six seven row next ⌝ }
 {
-    let read = rows::security_row(s, years, at, end);
-    let SecurityRead::Row(row, next) = read else {
-        return SecurityFound::Refused(rows::security_number(read));
-    };
-    if 200 <= count {
-        return SecurityFound::Refused(8);
-    }
-    if 8 <= currencies { // there is no room for a new one
-        let standing = searches::ranked(s, money, currencies, row.currency);
-        if !standing.there {
-            return SecurityFound::Refused(8);
+    if six {
+        if seven {
+            SecurityRead::Row(row, next)
+        } else {
+            SecurityRead::Refused(7)
         }
+    } else {
+        SecurityRead::Refused(6)
     }
-    if !searches::rises(s, codes, count, row.code) {
-        return SecurityFound::Refused(9);
-    }
-    let Value::Is(place) = searches::class_of(kinds, borders, classes, row.kind, row.duration)
-    else {
-        return SecurityFound::Refused(11);
-    };
-    let found = Security {
-        row: row,
-        class: numbers[place as usize],
-        currency: 0,
-    };
-    SecurityFound::Row(found, next)
 }
 
-// Currencies with that at a place, put at its rank where it is new.
-fn with_money(s: &[u8], currencies: Currencies, at: Place) -> Currencies
-    requires { ⌜ (currencies .count ≤ 8) × (length (currencies .places) ≡ 8) × Within 3 (now s) (take (currencies .count) (currencies .places)) × (at + 3 ≤ length (now s)) ⌝ }
-    requires { ⌜ (rankedOf (now s) (take (currencies .count) (currencies .places)) at .there || ltb (currencies .count) 8) ≡ true ⌝ }
-    ensures { λ r. ⌜ r ≡ withMoney (now (s .entry)) currencies at ⌝ }
+// S: code; currency; kind; duration; price; coupon; payments a year; previous coupon date; next coupon date. From the place where
+// the line starts; `end` is the place behind the last LF of the sheet.
+fn security_row(s: &[u8], years: &[Day; 400], at: Place, end: Place) -> SecurityRead
+    requires { ⌜ (at < end) × (end ≡ endedLength (now s)) × (now years ≡ newYears) ⌝ }
+    ensures { λ r. ⌜ r ≡ securityRead (now (s .entry)) at ⌝ }
 {
-    if 8 <= currencies.count {
-        return currencies; // it is there, since there is no room for a new one
+    let line = fields::line_at(s, at, end);
+    if line.count != 10 {
+        return SecurityRead::Refused(5);
     }
-    let places = currencies.places;
-    let standing = searches::ranked(s, &places, currencies.count, at);
-    if standing.there {
-        currencies
+    let ends = line.ends;
+    let number = fields::code_at(s, &ends, 0); // of the code
+    let currency = fields::currency_at(s, &ends, 1); // by its number
+    let kind = fields::kind_at(s, &ends, 2); // by its number
+    let duration = fields::duration_at(s, &ends, 3, kind < 2); // ten-thousandths of a year
+    let price = fields::number_at(s, &ends, 4, 1, 20_000_000); // hundred-thousandths of a percent
+    let coupon = fields::number_at(s, &ends, 5, 0, 2_000_000); // hundred-thousandths of a percent a year
+    let payments = fields::number_at(s, &ends, 6, 1, 4); // a year
+    let previous = fields::day_at(s, years, &ends, 7);
+    let next = fields::day_at(s, years, &ends, 8);
+    let six = fields::is_read(number)
+        & fields::is_read(currency)
+        & fields::is_read(kind)
+        & fields::is_read(duration)
+        & fields::is_read(price)
+        & fields::is_read(coupon)
+        & fields::is_read(payments)
+        & (payments != 3);
+    let seven = days::follows(previous, next, 400);
+    let row = SecurityRow {
+        code: ends[0] + 1,
+        number: number,
+        currency: currency,
+        kind: kind,
+        duration: duration,
+        price: price,
+        coupon: coupon,
+        payments: payments,
+        previous: previous,
+        next: next,
+    };
+    taken(six, seven, row, line.next)
+}
+
+// The refusal of what was read, 0 for a row.
+fn security_number(read: SecurityRead) -> Number
+    ensures { λ r. ⌜ r ≡ securityNumber read ⌝ }
+{
+    match read {
+        SecurityRead::Row(_, _) => 0,
+        SecurityRead::Refused(number) => number,
+    }
+}
+
+// The kind that a number of the table stands for: each from 3 on is floating.
+fn kind_of(
+    kind: u64, // by its number
+) -> u64
+    ensures { λ r. ⌜ r ≡ kindNumber (kindOf kind) ⌝ }
+{
+    if kind < 3 { kind } else { 3 }
+}
+
+// The columns of a table of C rows.
+fn columns_of(classes: Classes) -> Columns
+    ensures { λ r. ⌜ r ≡ columnsOf (classes .rows) ⌝ }
+{
+    let rows = classes.rows;
+    let mut kinds: [u64; 40] = [0; 40]; // by their numbers
+    let mut borders: [u64; 40] = [0; 40]; // ten-thousandths of a year
+    let mut numbers: [u64; 40] = [0; 40]; // of classes
+    let mut i: usize = 0; // rows
+    while i < 40 {
+        let row = rows[i];
+        kinds[i] = kind_of(row.kind);
+        borders[i] = row.border;
+        numbers[i] = row.class;
+        i += 1;
+    }
+    Columns {
+        kinds: kinds,
+        borders: borders,
+        numbers: numbers,
+    }
+}
+
+// The number of the first class of a kind whose border is not below a duration; 0 where there is none.
+fn class_of(
+    kinds: &[u64; 40], // by their numbers
+    borders: &[u64; 40], // ten-thousandths of a year
+    numbers: &[u64; 40], // of classes
+    count: usize, // classes
+    kind: u64, // by its number
+    duration: u64, // ten-thousandths of a year
+) -> u64
+    requires { ⌜ count ≤ 40 ⌝ }
+    ensures { λ r. ⌜ r ≡ classIn (take count (now (kinds .entry))) (take count (now (borders .entry))) (take count (now (numbers .entry))) kind duration ⌝ }
+{
+    let kinds: &[u64] = kinds; // as a slice: a proof is told its length
+    let borders: &[u64] = borders; // ten-thousandths of a year
+    let numbers: &[u64] = numbers; // of classes
+    let mut i: usize = 0; // classes
+    while i < count {
+        if (kinds[i] == kind) & (duration <= borders[i]) {
+            return numbers[i];
+        }
+        i += 1;
+    }
+    0
+}
+
+// Where a currency stands among rising ones: behind those that come before it. Eight turns, whatever they are: no branch depends
+// on them, since one that is guessed wrong costs more than the few steps left.
+fn ranked(
+    numbers: &[Money; 8],
+    count: usize, // currencies
+    own: Money,
+) -> Standing
+    requires { ⌜ count ≤ 8 ⌝ }
+    ensures { λ r. ⌜ r ≡ rankedOf (take count (now (numbers .entry))) own ⌝ }
+{
+    let numbers: &[Money] = numbers; // as a slice: a proof is told its length
+    let mut rank: usize = 0; // currencies before it
+    let mut more: usize = 1; // 1 while all so far come before it, then 0
+    let mut i: usize = 0; // currencies
+    while i < 8 {
+        let number = if i < count { numbers[i] } else { own };
+        let next = if number < own { more } else { 0 };
+        rank += next;
+        more = next;
+        i += 1;
+    }
+    let there = if rank < count {
+        numbers[rank] == own
     } else {
-        searches::with_currency(currencies, standing.rank, at)
+        false
+    };
+    Standing {
+        rank: rank,
+        there: there,
+    }
+}
+
+// Rising currencies with one more at its rank, where there are fewer than eight: each from there on gives its place to the one
+// before it.
+fn inserted(
+    currencies: Currencies,
+    rank: usize, // currencies before it
+    own: Money,
+) -> Currencies
+    requires { ⌜ currencies .count < 8 ⌝ }
+    ensures { λ r. ⌜ r ≡ insertedAt currencies rank own ⌝ }
+{
+    let mut numbers = currencies.numbers;
+    let mut moved: Money = own;
+    let mut i: usize = rank; // currencies
+    while i < 8 {
+        let number: Money = numbers[i];
+        numbers[i] = moved;
+        moved = number;
+        i += 1;
+    }
+    Currencies {
+        count: currencies.count + 1,
+        numbers: numbers,
+    }
+}
+
+// The rule that a row breaks, 0 where it breaks none: 8 there is room for it and for its currency, 9 its code rises, 11 it has a
+// class. `last` is the code above it, 0 where there is none.
+fn broken(
+    count: usize, // rows above
+    there: bool, // its currency stands above
+    currencies: usize, // above
+    last: Code,
+    number: Code,
+    class: u64, // 0 where there is none
+) -> Number
+    ensures { λ r. ⌜ r ≡ brokenOf count there currencies last number class ⌝ }
+{
+    let room = (count < 200) & (there | (currencies < 8));
+    if room {
+        if number <= last {
+            return 9;
+        }
+        if class == 0 { 11 } else { 0 }
+    } else {
+        8
+    }
+}
+
+// What the table keeps of a row. The place of its currency is given when all rows are read.
+fn security_of(
+    row: SecurityRow,
+    class: u64, // 1..40
+) -> Security
+    requires { ⌜ Small row × (class ≤ 40) ⌝ }
+    ensures { λ r. ⌜ r ≡ securityOf row class ⌝ }
+{
+    Security {
+        price: row.price as u32,
+        coupon: row.coupon as u32,
+        payments: row.payments as u32,
+        previous: row.previous as u32,
+        next: row.next as u32,
+        class: class as u32,
+        currency: 0,
     }
 }
 
 // The rows with the places of their currencies among all that there are.
 fn with_ranks(
-    s: &[u8],
     rows: [Security; 200],
+    money: &[Money; 200], // of the rows
     count: usize, // rows
     currencies: Currencies,
 ) -> [Security; 200]
-    requires { ⌜ (count ≤ 200) × (currencies .count ≤ 8) × Within 3 (now s) (take (currencies .count) (currencies .places)) ⌝ }
-    requires { ⌜ Within 3 (now s) (map (λ r. r .row .currency) (take count rows)) ⌝ }
-    ensures { λ r. ⌜ r ≡ map (reranked (now (s .entry)) (take (currencies .count) (currencies .places))) (take count rows) ++ drop count rows ⌝ }
+    requires { ⌜ (count ≤ 200) × (currencies .count ≤ 8) ⌝ }
+    ensures { λ r. ⌜ r ≡ withRank (take (currencies .count) (currencies .numbers)) (take count (now (money .entry))) rows ⌝ }
 {
-    let places = currencies.places;
-    let mut ranked = rows;
+    let money: &[Money] = money; // as a slice: a proof is told its length
+    let numbers = currencies.numbers;
+    let mut ranked_rows = rows;
     let mut i: usize = 0; // rows
     while i < count {
-        let mut security = ranked[i];
-        let row = security.row;
-        let standing = searches::ranked(s, &places, currencies.count, row.currency);
-        security.currency = standing.rank;
-        ranked[i] = security;
+        let mut security = ranked_rows[i];
+        let standing = ranked(&numbers, currencies.count, money[i]);
+        security.currency = standing.rank as u32;
+        ranked_rows[i] = security;
         i += 1;
     }
-    ranked
+    ranked_rows
 }
 
-// The S rows from a place on, with so many classes by kind, border and number.
+// The section with a refusal, so many rows above it.
+fn refused(
+    number: Number,
+    count: usize, // rows above
+) -> SecuritySection
+    ensures { λ r. ⌜ r ≡ securitySection [] [] 0 (refused number count) ⌝ }
+{
+    SecuritySection {
+        section: Section {
+            refusal: number,
+            count: count,
+            next: 0,
+        },
+        table: tables::no_securities(),
+    }
+}
+
+// The S rows from a place on. `end` is the place behind the last LF of the sheet.
 pub fn security_section(
     s: &[u8],
     years: &[Day; 400],
     from: Place,
     end: Place,
-    kinds: &[u64; 40], // of the classes, by their numbers
-    borders: &[u64; 40], // ten-thousandths of a year
-    numbers: &[u64; 40], // 1..40
-    classes: usize, // how many
-) -> Securities
-    requires { ⌜ (from ≤ end) × (end ≡ endedLength (now s)) × (now years ≡ newYears) × (classes ≤ 40) ⌝ }
-    ensures { λ r. ⌜ ((cs : List ClassRow) → Bordered (take classes (now (kinds .entry))) (take classes (now (borders .entry))) (take classes (now (numbers .entry))) cs → r ≡ heldSecurities (now (s .entry)) cs from (section (ascii "S") 10 readSecurity (securityRules cs) (0, lines (drop from (now (s .entry)))))) ⌝ }
-    ensures { λ r. ⌜ ((cs : List ClassRow) → Bordered (take classes (now (kinds .entry))) (take classes (now (borders .entry))) (take classes (now (numbers .entry))) cs → FindableIn (now (s .entry)) r (section (ascii "S") 10 readSecurity (securityRules cs) (0, lines (drop from (now (s .entry)))))) ⌝ }
+    classes: Classes,
+) -> SecuritySection
+    requires { ⌜ (from ≤ end) × (end ≡ endedLength (now s)) × (now years ≡ newYears) × (classes .count ≤ 40) × (ranged classes ≡ true) ⌝ }
+    ensures { λ r. ⌜ r ≡ securitySection (paperClasses classes) (now (s .entry)) from (section (securityKind (paperClasses classes)) (0, lines (drop from (now (s .entry))))) ⌝ }
 {
-    let mut rows: [Security; 200] = [no_security(); 200];
-    let mut codes: [Place; 200] = [0; 200];
-    let mut currencies = Currencies {
-        count: 0,
-        places: [0; 8],
-    };
+    let columns = columns_of(classes);
+    let kinds = columns.kinds;
+    let borders = columns.borders;
+    let numbers = columns.numbers;
+    let none = tables::no_securities();
+    let mut rows = none.rows;
+    let mut codes = none.codes;
+    let mut money: [Money; 200] = [0; 200];
+    let mut currencies = none.currencies;
+    let mut last: Code = 0;
     let mut count: usize = 0; // rows
     let mut at: Place = from;
-    while rows::goes_on(s, at, end, 83) {
-        let money = currencies.places;
-        let found = security_at(
-            s,
-            years,
-            at,
-            end,
-            kinds,
-            borders,
-            numbers,
-            classes,
-            &codes,
-            count,
-            &money,
-            currencies.count,
-        );
-        let SecurityFound::Row(security, next) = found else {
-            return Securities {
-                refusal: found_number(found),
-                count: count,
-                rows: [no_security(); 200],
-                codes: [0; 200],
-                currencies: Currencies {
-                    count: 0,
-                    places: [0; 8],
-                },
-                next: 0,
-            };
+    while sections::goes_on(s, at, end, 83) {
+        let read = security_row(s, years, at, end);
+        let SecurityRead::Row(row, next) = read else {
+            return refused(security_number(read), count);
         };
-        let row = security.row;
-        rows[count] = security;
-        codes[count] = row.code;
-        currencies = with_money(s, currencies, row.currency);
+        let above = currencies.numbers;
+        let standing = ranked(&above, currencies.count, row.currency);
+        let class = class_of(
+            &kinds,
+            &borders,
+            &numbers,
+            classes.count,
+            row.kind,
+            row.duration,
+        ); // 0 where there is none
+        let number = broken(
+            count,
+            standing.there,
+            currencies.count,
+            last,
+            row.number,
+            class,
+        ); // of a refusal
+        if number != 0 {
+            return refused(number, count);
+        }
+        rows[count] = security_of(row, class);
+        codes[count] = row.number;
+        money[count] = row.currency;
+        if !standing.there {
+            currencies = inserted(currencies, standing.rank, row.currency);
+        }
+        last = row.number;
         count += 1;
         at = next;
     }
-    Securities {
-        refusal: 0,
-        count: count,
-        rows: with_ranks(s, rows, count, currencies),
-        codes: codes,
-        currencies: currencies,
-        next: at,
+    SecuritySection {
+        section: Section {
+            refusal: 0,
+            count: count,
+            next: at,
+        },
+        table: Securities {
+            count: count,
+            rows: with_ranks(rows, &money, count, currencies),
+            codes: codes,
+            currencies: currencies,
+        },
     }
 }

@@ -1,8 +1,6 @@
-pub mod Stages
-pub mod Reading
-pub mod Steps
 pub mod Starting
-pub mod Exits
-pub mod Lent
 pub mod Marks
-pub mod Found
+pub mod Row
+pub mod Ends
+pub mod Chain
+pub mod Stations

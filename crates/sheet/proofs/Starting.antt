@@ -8,29 +8,25 @@ use mathlib.Core.Logic.{⊎-elim}
 use mathlib.Core.Option.{Option, none, some, Option·getD}
 use mathlib.Core.Path.{_≡_, refl, sym, ap, ap₂, _∙_, subst}
 use borrow.Author.Tests.{ltb-true, ltb-false}
-use lib.Dec.{eqb, ltb}
+use lib.Dec.{T, eqb, ltb}
 use lib.ListN.{length, getD, take, drop}
 use Rattle.paper.specs.Units.{Text, Fields, Number, Date, Day}
 use Rattle.paper.specs.Days.{isDay, dayOf, day}
 use Rattle.paper.specs.Text.{ascii, lines, same}
 use Rattle.paper.specs.Lists.{given}
 use Rattle.paper.specs.Rows.{readDate, Tables}
-use Rattle.paper.specs.Refusals.{Outcome, refused, accepted, _>>=_, judged, dateRules}
-use Rattle.paper.specs.Sheet.{Rest, header, begins, dateRow, readTables, readSheet}
+use Rattle.paper.specs.Refusals.{Outcome, refused, accepted, _>>=_, judged, dateKind}
+use Rattle.paper.specs.Sheet.{Rest, header, begins, row, dateRow, readTables, readSheet}
+use Rattle.paper.specs.Tables.{hold}
 use Rattle.paper.proofs.Lists.{tests, both, never}
 use Rattle.paper.proofs.Days.{day-below}
-use Rattle.fields.specs.Places.{Place, endedLength, lineAt}
 use Rattle.paper.proofs.Views.{header-written}
+use Rattle.fields.specs.Places.{Place, endedLength, lineAt}
 use Rattle.fields.proofs.Places.{ended-append, line-there, no-line, unended-line, ended-most}
-use Rattle.rows.specs.Fields.{fieldsAt, dateShape}
-use Rattle.rows.specs.Held.{heldDate}
-use Rattle.rows.specs.Reads.{dateRead}
-use Rattle.rows.specs.Sections.{goesOn}
-use Rattle.rows.specs.declared.DateRow.{DateRow}
-use Rattle.rows.specs.declared.DateRead.{DateRead}
-use Rattle.rows.specs.declared.DateRead.the-variants as dates
-use Rattle.rows.proofs.Loops.{judgedOn, row-part, shaped-holds}
-use Rattle.sheet.specs.Whole.{headerNumber}
+use Rattle.sections.specs.Sections.{fieldsAt, goesOn, shaped}
+use Rattle.sections.proofs.Loops.{row-refused, row-judged, own-holds, Words, told-row, told-refused}
+use Rattle.sheet.specs.Whole.{headerNumber, dateRead}
+use Rattle.sheet.specs.declared.DateRead.the-variants as reads
 
 -- What a header comes to, by its two rules
 abbrev numberBy : Bool → Bool → Number
@@ -70,17 +66,23 @@ accepted-ended sheet rest e =
 pub header-ended : (sheet : Text) → headerNumber sheet ≡ 0 → 6 ≤ endedLength sheet
 header-ended sheet e = accepted-ended sheet (2, lines (drop 6 sheet)) (header-right sheet e)
 
+-- ---- the D row
+
+-- What follows the D row
+abbrev behindRow : Text → Outcome Date → Outcome (Date × Rest)
+behindRow sheet o = o >>= λ d. accepted (d, (3, tail (lines (drop 6 sheet))))
+
 -- No D row: no line with its letter stands there
 pub no-date : (sheet : Text) → 6 ≤ endedLength sheet → goesOn sheet 6 (endedLength sheet) 68 ≡ false
     → dateRow (2, lines (drop 6 sheet)) ≡ refused 5 2
 no-date sheet h e =
-    ap (λ (b : Bool). formed b (readDate (fieldsAt sheet 6)) >>= λ d. accepted (d, (3, tail (lines (drop 6 sheet))))) (unlettered (ltb 6 (endedLength sheet)) refl)
+    ap (λ (b : Bool). behindRow sheet (formed b (readDate (fieldsAt sheet 6)))) (unlettered (ltb 6 (endedLength sheet)) refl)
   where
     formed : Bool → Option Date → Outcome Date
     formed b o =
         elim (b && eqb (length (fieldsAt sheet 6)) 2) [
           | false ↦ refused 5 2
-          | true ↦ elim o [ none ↦ refused 6 2 | some d ↦ judged 2 d (dateRules d) ]
+          | true ↦ elim o [ none ↦ refused 6 2 | some d ↦ judged 2 d (dateKind .own d) ]
         ]
 
     no-field : (fss : List Fields) → lines (drop 6 sheet) ≡ fss → begins (68 ∷ []) (getD fss 0 []) ≡ false → begins (68 ∷ []) (fieldsAt sheet 6) ≡ false
@@ -94,38 +96,14 @@ no-date sheet h e =
         (λ less. no-field ([] ∷ []) (unended-line sheet 6 last (omega arith)) refl)
         (eq-or-lt-of-le (ended-most sheet))
 
--- What the D row gives: its refusal, or its date with the place of the next line
-pub data Dated (sheet : Text) : DateRead → Type 0 where
-  date-refused : (number : ℕ) → dateRow (2, lines (drop 6 sheet)) ≡ refused number 2 → Dated sheet (dates.Refused number)
-  date-there : (d : Date) → isDay d ≡ true → lineAt sheet 6 .next ≤ endedLength sheet
-      → dateRow (2, lines (drop 6 sheet)) ≡ accepted (d, (3, lines (drop (lineAt sheet 6 .next) sheet)))
-      → Dated sheet (dates.Row (heldDate d) (lineAt sheet 6 .next))
-
-pub dated : (sheet : Text) → goesOn sheet 6 (endedLength sheet) 68 ≡ true → Dated sheet (dateRead sheet 6)
-dated sheet e = go (dateShape (fieldsAt sheet 6)) refl
-  where
-    taken : (ltb 6 (endedLength sheet) ≡ true) × (begins (68 ∷ []) (fieldsAt sheet 6) ≡ true)
-    taken = both (ltb 6 (endedLength sheet)) (begins (68 ∷ []) (fieldsAt sheet 6)) e
-
-    there : 6 < endedLength sheet
-    there = ltb-true 6 (endedLength sheet) (taken .0)
-
-    read : Outcome Date → Outcome (Date × Rest)
-    read o = judgedOn 2 (λ d. drop 1 (dateRules d)) o >>= λ d. accepted (d, (3, tail (lines (drop 6 sheet))))
-
-    is-read : (o : Outcome Date) → dateShape (fieldsAt sheet 6) ≡ o → dateRow (2, lines (drop 6 sheet)) ≡ read o
-    is-read o k =
-        ap (λ (o : Outcome Date). o >>= λ d. accepted (d, (3, tail (lines (drop 6 sheet)))))
-        (row-part (68 ∷ []) 2 1 readDate dateRules 2 (fieldsAt sheet 6) (taken .1) ∙ ap (judgedOn 2 (λ d. drop 1 (dateRules d))) k)
-
-    go : (o : Outcome Date) → dateShape (fieldsAt sheet 6) ≡ o
-        → Dated sheet (elim o [ refused number line ↦ dates.Refused number | accepted d ↦ dates.Row (heldDate d) (lineAt sheet 6 .next) ])
-    go (refused number line) k = date-refused number (is-read (refused number line) k)
-    go (accepted d) k =
-        let l = line-there sheet 6 there in
-        let holding = shaped-holds 2 readDate dateRules (fieldsAt sheet 6) d k in
-        date-there d (search tests) (l .most)
-        (is-read (accepted d) k ∙ ap (λ (fss : List Fields). accepted (d, (3, tail fss))) (l .read))
+-- How the code says a day and a refusal
+words : Words reads.Refused (λ (d : Day) (next : Place). reads.Row d next)
+words =
+    record {
+      apart = λ number d next e. let z : _≡_ {A = ℕ} 0 1 = cc in absurd (omega arith);
+      one = λ d c m n e. (cc, cc);
+      number = λ m n e. cc;
+    }
 
 -- A real date's day is one of the table's
 day-under : (d : Date) → isDay d ≡ true → day d < 146_097
@@ -135,34 +113,44 @@ day-under d real = go (dayOf d) refl real
     go none k e = never e
     go (some x) k e = day-below d x k
 
--- A D row that was read: its date as it is held, and the next line
-pub record DateThere (sheet : Text) (r : DateRow) (next : Place) : Type 0 where
-  pub held : r ≡ heldDate (r .date)
-  pub below : r .day < 146_097
-  pub behind : next ≡ lineAt sheet 6 .next
+-- A D row that was read: the date of its day, and the next line
+pub record DateThere (sheet : Text) (today : Day) (next : Place) : Type 0 where
+  pub date : Date
+  pub its-day : today ≡ day date
+  pub rules : T (hold (dateKind .own date))
+  pub below : today < 146_097
   pub within : next ≤ endedLength sheet
-  pub read : dateRow (2, lines (drop 6 sheet)) ≡ accepted (r .date, (3, lines (drop next sheet)))
+  pub read : dateRow (2, lines (drop 6 sheet)) ≡ accepted (date, (3, lines (drop next sheet)))
 
-pub date-read : (sheet : Text) → goesOn sheet 6 (endedLength sheet) 68 ≡ true → (r : DateRow) (next : Place) → dateRead sheet 6 ≡ dates.Row r next
-    → DateThere sheet r next
-date-read sheet e r next = go (dated sheet e)
-  where
-    go : {read : DateRead} → Dated sheet read → read ≡ dates.Row r next → DateThere sheet r next
-    go (date-refused number e) k = let z : _≡_ {A = ℕ} 0 1 = cc in absurd (omega arith)
-    go (date-there d real within e) k =
-        let r-is : heldDate d ≡ r = cc in
-        let next-is : lineAt sheet 6 .next ≡ next = cc in
-        subst (λ (x : DateRow × Place). DateThere sheet (x .0) (x .1)) (ap₂ (λ (a : DateRow) (b : Place). (a, b)) r-is next-is)
-        (record { held = refl; below = day-under d real; behind = refl; within = within; read = e })
+module _ (sheet : Text) (e : goesOn sheet 6 (endedLength sheet) 68 ≡ true) where
+  taken : (6 < endedLength sheet) × (begins (68 ∷ []) (fieldsAt sheet 6) ≡ true)
+  taken =
+      let k = both (ltb 6 (endedLength sheet)) (begins (68 ∷ []) (fieldsAt sheet 6)) e in
+      (ltb-true 6 (endedLength sheet) (k .0), k .1)
 
--- One that was refused
-pub date-number-read : (sheet : Text) → goesOn sheet 6 (endedLength sheet) 68 ≡ true → (number : ℕ) → dateRead sheet 6 ≡ dates.Refused number
-    → dateRow (2, lines (drop 6 sheet)) ≡ refused number 2
-date-number-read sheet e number = go (dated sheet e)
-  where
-    go : {read : DateRead} → Dated sheet read → read ≡ dates.Refused number → dateRow (2, lines (drop 6 sheet)) ≡ refused number 2
-    go (date-refused n e) k = let n-is : n ≡ number = cc in e ∙ ap (λ (n : ℕ). refused n 2) n-is
-    go (date-there d real within e) k = let z : _≡_ {A = ℕ} 0 1 = cc in absurd (omega arith)
+  pub date-read : (today : Day) (next : Place) → dateRead sheet 6 ≡ reads.Row today next → DateThere sheet today next
+  date-read today next k =
+      let (d, shape, its, behind) = told-row words day (lineAt sheet 6 .next) (shaped dateKind (fieldsAt sheet 6)) today next k in
+      let l = line-there sheet 6 (taken .0) in
+      let own = own-holds dateKind (fieldsAt sheet 6) d shape in
+      let real : isDay d ≡ true = search tests in
+      subst (λ (p : Place). DateThere sheet today p) behind
+      (record {
+        date = d;
+        its-day = sym its;
+        rules = own;
+        below = subst (λ (x : Day). x < 146_097) its (day-under d real);
+        within = l .most;
+        read =
+            ap (behindRow sheet) (row-judged dateKind [] 2 (fieldsAt sheet 6) d (taken .1) shape)
+            ∙ ap (λ (fss : List Fields). accepted (d, (3, tail fss))) (l .read);
+      })
+
+  -- One that was refused
+  pub date-number-read : (number : ℕ) → dateRead sheet 6 ≡ reads.Refused number → dateRow (2, lines (drop 6 sheet)) ≡ refused number 2
+  date-number-read number k =
+      let (line, shape) = told-refused words day (lineAt sheet 6 .next) (shaped dateKind (fieldsAt sheet 6)) number k in
+      ap (behindRow sheet) (row-refused dateKind [] 2 (fieldsAt sheet 6) number line (taken .1) shape)
 
 -- What reading comes to, by the header and the D row
 module _ (sheet : Text) where

@@ -1,47 +1,32 @@
 // A sheet, read: the header, the D row, then the sections C, O, S and T, and no line behind them.
+use days::Day;
 use fields::Place;
-use rows::ClassRow;
-use rows::DateRead;
-use rows::DateRow;
-use rows::Day;
-use rows::Number;
-use rows::PriorityRow;
-use rows::SecurityRow;
-use rows::TradeRow;
-use searches::Currencies;
-use sections::Classes;
-use sections::Priorities;
-use securities::Securities;
-use securities::Security;
-use trades::Trade;
-use trades::Trades;
+use sections::Number;
+use tables::Tables;
 ghost use mathlib.Core.Path.{_≡_};
 ghost use Prim.Native.Nat.{_≤_, _<_};
 ghost use lib.ListN.{length, drop};
-ghost use Rattle.paper.specs.Days.{newYears};
+ghost use Rattle.paper.specs.Days.{newYears, day};
+ghost use Rattle.paper.specs.Units.{Date};
+ghost use Rattle.paper.specs.Refusals.{refused};
 ghost use Rattle.paper.specs.Text.{lines};
 ghost use Rattle.paper.specs.Sheet.{readTables, readSheet};
 ghost use Rattle.fields.specs.Places.{endedLength};
-ghost use Rattle.rows.specs.Held.{heldDate};
-ghost use Rattle.sheet.specs.Whole.{headerNumber, refusedSheet, heldFrom, heldSheet, periodsOf};
+ghost use Rattle.sheet.specs.Whole.{headerNumber, takenOf, dateRead, dateNumber, heldSheet};
 
 pub type LineNumber = u64; // from 1
+
+// The day of calculation and where the next line starts, or the refusal of the D row.
+pub enum DateRead {
+    Row(Day, Place),
+    Refused(Number),
+}
 
 // What a sheet holds, or its refusal, and then empty tables.
 pub struct Sheet {
     pub refusal: Number, // 0 where none
     pub line: LineNumber, // of the refusal, 0 where none
-    pub date: DateRow, // of calculation
-    pub classes: Classes,
-    pub priorities: Priorities,
-    pub securities: Securities,
-    pub trades: Trades,
-}
-
-// The coupon days of securities, by their places.
-pub struct Periods {
-    pub previous: [Day; 200],
-    pub next: [Day; 200],
+    pub tables: Tables,
 }
 
 // The refusal of the header, 0 where there is none: `BRM;`, then `1` and LF.
@@ -75,185 +60,106 @@ fn header_number(s: &[u8]) -> Number
     0
 }
 
+// A day that may be calculated for, or its refusal.
+fn taken(good: bool, day: Day, next: Place) -> DateRead
+    ensures { λ r. ⌜ r ≡ takenOf good day next ⌝ }
+{
+    if good {
+        DateRead::Row(day, next)
+    } else {
+        DateRead::Refused(7)
+    }
+}
+
+// D: a day that a calculation may be for. From the place where the line starts; `end` is the place behind the last LF of the sheet.
+fn date_row(s: &[u8], years: &[Day; 400], at: Place, end: Place) -> DateRead
+    requires { ⌜ (at < end) × (end ≡ endedLength (now s)) × (now years ≡ newYears) ⌝ }
+    ensures { λ r. ⌜ r ≡ dateRead (now (s .entry)) at ⌝ }
+{
+    let line = fields::line_at(s, at, end);
+    if line.count != 2 {
+        return DateRead::Refused(5);
+    }
+    let ends = line.ends;
+    let date = fields::date_at(s, &ends, 0);
+    let day = fields::day_at(s, years, &ends, 0);
+    taken(fields::is_read(day) & (date <= 23_991_220), day, line.next)
+}
+
+// The refusal of what was read, 0 for a day.
+fn date_number(read: DateRead) -> Number
+    ensures { λ r. ⌜ r ≡ dateNumber read ⌝ }
+{
+    match read {
+        DateRead::Row(_, _) => 0,
+        DateRead::Refused(number) => number,
+    }
+}
+
 // A sheet that is refused.
 fn refused(number: Number, line: LineNumber) -> Sheet
-    ensures { λ r. ⌜ r ≡ refusedSheet number line ⌝ }
+    ensures { λ r. ⌜ r ≡ heldSheet (refused number line) ⌝ }
 {
-    let none = DateRow { date: 0, day: 0 };
-    let class = ClassRow {
-        class: 0,
-        kind: 0,
-        border: 0,
-        deposit: 0,
-    };
-    let priority = PriorityRow {
-        first: 0,
-        second: 0,
-        factor: 0,
-    };
-    let security = SecurityRow {
-        code: 0,
-        currency: 0,
-        kind: 0,
-        duration: 0,
-        price: 0,
-        coupon: 0,
-        payments: 0,
-        previous: none,
-        next: none,
-    };
-    let trade = TradeRow {
-        trade: 0,
-        side: 0,
-        code: 0,
-        key: 0,
-        nominal: 0,
-        amount: 0,
-        first: none,
-        last: none,
-        rate: 0,
-    };
-    let no_security = Security {
-        row: security,
-        class: 0,
-        currency: 0,
-    };
-    let no_trade = Trade {
-        row: trade,
-        security: 0,
-        margined: false,
-        accrual: 0,
-    };
-    let currencies = Currencies {
-        count: 0,
-        places: [0; 8],
-    };
     Sheet {
         refusal: number,
         line: line,
-        date: none,
-        classes: Classes {
-            refusal: 0,
-            count: 0,
-            rows: [class; 40],
-            next: 0,
-        },
-        priorities: Priorities {
-            refusal: 0,
-            count: 0,
-            rows: [priority; 200],
-            next: 0,
-        },
-        securities: Securities {
-            refusal: 0,
-            count: 0,
-            rows: [no_security; 200],
-            codes: [0; 200],
-            currencies: currencies,
-            next: 0,
-        },
-        trades: Trades {
-            refusal: 0,
-            count: 0,
-            rows: [no_trade; 500],
-            next: 0,
-        },
+        tables: tables::no_tables(),
     }
 }
 
-// The coupon days of the rows of a table.
-fn periods_of(rows: [Security; 200]) -> Periods
-    ensures { λ r. ⌜ r ≡ periodsOf rows ⌝ }
+// The sections behind the D row, from a place on line 3; `today` is the day of calculation.
+fn tables_from(s: &[u8], years: &[Day; 400], from: Place, end: Place, today: Day) -> Sheet
+    requires { ⌜ (length (now s) ≤ 65_536) × (from ≤ end) × (end ≡ endedLength (now s)) × (now years ≡ newYears) × (today < 146_097) ⌝ }
+    ensures { λ r. ⌜ ((date : Date) → today ≡ day date → r ≡ heldSheet (readTables date (3, lines (drop from (now (s .entry)))))) ⌝ }
 {
-    let mut previous: [Day; 200] = [0; 200];
-    let mut next: [Day; 200] = [0; 200];
-    let mut i: usize = 0; // rows
-    while i < 200 {
-        let security = rows[i];
-        previous[i] = security.row.previous.day;
-        next[i] = security.row.next.day;
-        i += 1;
+    let cs = classes::class_section(s, from, end);
+    let c = cs.section;
+    let first = 3 + c.count as u64; // line of the O rows
+    if c.refusal != 0 {
+        return refused(c.refusal, first);
     }
-    Periods {
-        previous: previous,
-        next: next,
+    let known = cs.table;
+    let os = priorities::priority_section(s, c.next, end, known);
+    let o = os.section;
+    let second = first + o.count as u64; // line of the S rows
+    if o.refusal != 0 {
+        return refused(o.refusal, second);
     }
-}
-
-// The sections behind the D row, from a place on line 3.
-fn tables(s: &[u8], years: &[Day; 400], from: Place, end: Place, date: DateRow) -> Sheet
-    requires { ⌜ (length (now s) ≤ 65_536) × (from ≤ end) × (end ≡ endedLength (now s)) × (now years ≡ newYears) ⌝ }
-    requires { ⌜ (date ≡ heldDate (date .date)) × (date .day < 146_097) ⌝ }
-    ensures { λ r. ⌜ r ≡ heldFrom (now (s .entry)) from (readTables (date .date) (3, lines (drop from (now (s .entry))))) ⌝ }
-{
-    let cs = sections::class_section(s, from, end);
-    let classes = 3 + cs.count as u64; // line
-    if cs.refusal != 0 {
-        return refused(cs.refusal, classes);
+    let ss = securities::security_section(s, years, o.next, end, known);
+    let b = ss.section;
+    let third = second + b.count as u64; // line of the T rows
+    if b.refusal != 0 {
+        return refused(b.refusal, third);
     }
-    let os = sections::priority_section(s, cs.next, end, cs);
-    let priorities = classes + os.count as u64; // line
-    if os.refusal != 0 {
-        return refused(os.refusal, priorities);
+    let bonds = ss.table;
+    let working = days::working_after(years, today);
+    let ts = trades::trade_section(s, years, b.next, end, today, working, bonds);
+    let t = ts.section;
+    let behind = third + t.count as u64; // line
+    if t.refusal != 0 {
+        return refused(t.refusal, behind);
     }
-    let index = sections::borders_of(cs);
-    let kinds = index.kinds;
-    let borders = index.borders;
-    let numbers = index.numbers;
-    let ss = securities::security_section(
-        s,
-        years,
-        os.next,
-        end,
-        &kinds,
-        &borders,
-        &numbers,
-        cs.count,
-    );
-    let securities = priorities + ss.count as u64; // line
-    if ss.refusal != 0 {
-        return refused(ss.refusal, securities);
+    if t.next != s.len() {
+        return refused(5, behind);
     }
-    let rows = ss.rows;
-    let codes = ss.codes;
-    let periods = periods_of(rows);
-    let previous = periods.previous;
-    let next = periods.next;
-    let working = days::working_after(years, date.day);
-    let ts = trades::trade_section(
-        s,
-        years,
-        ss.next,
-        end,
-        date.day,
-        working,
-        &codes,
-        &previous,
-        &next,
-        ss.count,
-    );
-    let trades = securities + ts.count as u64; // line
-    if ts.refusal != 0 {
-        return refused(ts.refusal, trades);
-    }
-    if ts.next != s.len() {
-        return refused(5, trades);
-    }
+    let priorities = os.table;
+    let trades = ts.table;
     Sheet {
         refusal: 0,
         line: 0,
-        date: date,
-        classes: cs,
-        priorities: os,
-        securities: ss,
-        trades: ts,
+        tables: Tables {
+            classes: known,
+            priorities: priorities,
+            securities: bonds,
+            trades: trades,
+        },
     }
 }
 
 // A sheet of at most 65,536 bytes to its tables, or to its refusal and line.
 pub fn read_sheet(s: &[u8]) -> Sheet
     requires { ⌜ length (now s) ≤ 65_536 ⌝ }
-    ensures { λ r. ⌜ r ≡ heldSheet (now (s .entry)) (readSheet (now (s .entry))) ⌝ }
+    ensures { λ r. ⌜ r ≡ heldSheet (readSheet (now (s .entry))) ⌝ }
 {
     let header = header_number(s);
     if header != 0 {
@@ -261,12 +167,12 @@ pub fn read_sheet(s: &[u8]) -> Sheet
     }
     let years = days::new_years();
     let end = fields::ended(s);
-    if !rows::goes_on(s, 6, end, 68) {
+    if !sections::goes_on(s, 6, end, 68) {
         return refused(5, 2);
     }
-    let read = rows::date_row(s, &years, 6, end);
-    let DateRead::Row(date, next) = read else {
-        return refused(rows::date_number(read), 2);
+    let read = date_row(s, &years, 6, end);
+    let DateRead::Row(today, next) = read else {
+        return refused(date_number(read), 2);
     };
-    tables(s, &years, next, end, date)
+    tables_from(s, &years, next, end, today)
 }

@@ -12,9 +12,8 @@ use Rattle.paper.specs.Demands.{IsAnswer}
 use Rattle.paper.proofs.Digits.{digits-length}
 use Rattle.paper.proofs.Lengths.{line-length}
 use Rattle.paper.proofs.Demands.{gives-answer, is-answer}
-use Rattle.fields.specs.Places.{Place}
 use Rattle.io.specs.Counts.{Counts}
-use Rattle.lines.specs.Written.{Wrote, refusalLine}
+use Rattle.lines.specs.Written.{Place, Wrote, refusalLine}
 use Rattle.lines.proofs.Written.{written-length}
 use Rattle.shown.specs.Shown.{shownText}
 

@@ -1,2 +1,4 @@
-pub mod Judging
+pub mod Codes
+pub mod Row
+pub mod Tables
 pub mod Turns

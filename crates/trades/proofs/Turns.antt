@@ -1,127 +1,260 @@
--- The loop over the T rows: what a turn of it does with what a row answers, as the paper reads the section.
-use Prim.Native.Nat.{ℕ, _+_, _<_}
+-- The loop over the T rows, turn by turn: the table has the rows above, and what the code makes of a row, by the table of the
+-- securities, is what the paper makes of it.
+use Prim.Native.Nat.{ℕ, _+_, _≤_, _<_}
 use native.Mathlib.Omega.{arith}
-use mathlib.Core.Bool.{Bool, true, false, not, _||_}
+use mathlib.Core.Bool.{Bool, true, false, cond, _&&_}
 use mathlib.Core.List.{List, [], _∷_, reverse}
-use mathlib.Core.Path.{_≡_, refl, sym, ap, ap₂, _∙_, subst}
+use mathlib.Core.Option.{Option, none, some, Option·getD}
+use mathlib.Core.Path.{_≡_, refl, sym, ap, _∙_}
 use borrow.Author.Tests.{ltb-true}
-use lib.Dec.{ltb}
-use lib.ListN.{length, getD, set, length-reverse}
-use Rattle.paper.specs.Units.{Text, Day}
-use Rattle.paper.specs.Days.{workingAfter}
+use lib.Dec.{eqb, leb, ltb}
+use lib.ListN.{length, getD, take, set, length-reverse}
+use Rattle.paper.specs.Units.{Text, Number, Date, Day}
+use Rattle.paper.specs.Days.{dayOf, isDay, day, workingAfter}
+use Rattle.paper.specs.Lists.{given}
+use Rattle.paper.specs.Text.{isCode}
 use Rattle.paper.specs.Rows as paper
-use Rattle.paper.specs.Rows.{readTrade}
-use Rattle.paper.specs.Refusals.{Outcome, refused, tradeRules}
-use Rattle.paper.specs.Sheet.{Rest, begins, row}
-use Rattle.paper.proofs.Lists.{both}
-use Rattle.fields.specs.Places.{Place, endedLength, lineAt}
-use Rattle.rows.specs.Fields.{fieldsAt}
-use Rattle.rows.specs.Reads.{tradeRead}
-use Rattle.rows.specs.Sections.{goesOn, nextAfter, heldFrom, padded}
-use Rattle.rows.specs.declared.TradeRead.{TradeRead}
-use Rattle.rows.specs.declared.TradeRead.the-variants as reads
-use Rattle.rows.proofs.Loops.{Going, going-on, going-refused, going-ended, whole}
-use Rattle.searches.specs.Searches.{placeIn}
-use Rattle.trades.specs.Tables.{Stands, marginedRow, accrualRow, periodHolds, noTrade, heldFound, heldTrades, tradeJudged}
-use Rattle.trades.specs.declared.Trade.{Trade}
-use Rattle.trades.specs.declared.TradeFound.{TradeFound}
-use Rattle.trades.specs.declared.TradeFound.the-variants as found
-use Rattle.trades.proofs.Judging.{TradeAgrees, trade-row, trade-refused, trade-agrees, read-row}
+use Rattle.paper.specs.Rows.{repo, cash, seller, purchaser}
+use Rattle.paper.specs.Valuation.{lastDay, margined, accrualDay}
+use Rattle.paper.specs.Refusals.{refused, RowKind, Period, inPeriod, tradeKind}
+use Rattle.paper.proofs.Days.{day-below}
+use Rattle.paper.proofs.Lists.{never, tests}
+use Rattle.paper.proofs.Rules.{TradeFacts, trade-facts}
+use Rattle.fields.specs.Places.{Place, endedLength}
+use Rattle.tables.specs.Numbers.{tradeNumber, sideNumber, numberPlace}
+use Rattle.tables.specs.Padded.{tableOf}
+use Rattle.tables.specs.Held.{noSecurity, noTrade, heldTrade, tradeTable}
+use Rattle.tables.specs.declared.Securities.{Securities}
+use Rattle.tables.specs.declared.Trade.{Trade}
+use Rattle.tables.specs.declared.Trades.{Trades}
+use Rattle.tables.proofs.Padded.{table-more}
+use Rattle.sections.specs.Sections.{goesOn, broken}
+use Rattle.sections.proofs.Loops as loops
+use Rattle.sections.proofs.Loops.{Kept, more-kept, Words, Going, going-start, going-ended, line-refused, LineRow, line-row, result-refused, result-ended}
+use Rattle.sections.specs.declared.Section.{Section}
+use Rattle.trades.specs.Read.{heldRow, tradeRead}
+use Rattle.trades.specs.Found.{periodOf, periodIn, marginedOn, periodHolds, brokenOf, Small, tradeOf}
+use Rattle.trades.specs.Section.{tradeSection}
+use Rattle.trades.specs.declared.TradeRow.{TradeRow}
+use Rattle.trades.specs.declared.TradeRead.the-variants as reads
+use Rattle.trades.specs.declared.TradeSection.{TradeSection}
 
--- A refusal is no row
-not-row : {A : Type 0} {number : ℕ} {trade : Trade} {behind : Place} → found.Refused number ≡ found.Row trade behind → A
-not-row e = let z : _≡_ {A = ℕ} 0 1 = cc in absurd (omega arith)
+-- How the code says a row and a refusal
+pub words : Words reads.Refused (λ (t : TradeRow) (next : Place). reads.Row t next)
+words =
+    record {
+      apart = λ number t next e. let z : _≡_ {A = ℕ} 0 1 = cc in absurd (omega arith);
+      one = λ t u m n e. (cc, cc);
+      number = λ m n e. cc;
+    }
 
--- A section that goes on has a line there
-pub line-on : (sheet : Text) (at : Place) → goesOn sheet at (endedLength sheet) 84 ≡ true → at < endedLength sheet
-line-on sheet at e = ltb-true at (endedLength sheet) (both (ltb at (endedLength sheet)) (begins (84 ∷ []) (fieldsAt sheet at)) e .0)
+-- ---- the rules
 
--- A row that is taken has fewer than 500 above it, and the next line behind it
-pub row-taken : (sheet : Text) (today working : Day) (codes : List Place) (previous next : List Day) (count : ℕ) (at : Place) (trade : Trade) (behind : Place)
-    → at < endedLength sheet → tradeJudged sheet today working codes previous next count (tradeRead sheet at) ≡ found.Row trade behind
-    → (count < 500) × (behind ≡ lineAt sheet at .next)
-row-taken sheet today working codes previous next count at trade behind h e = go (tradeRead sheet at) refl e
+rules-alike : (room there within : Bool) → brokenOf room there within ≡ broken ((8, room) ∷ (10, there) ∷ (12, within) ∷ [])
+rules-alike false there within = refl
+rules-alike true false within = refl
+rules-alike true true false = refl
+rules-alike true true true = refl
+
+-- A row that breaks none has room, and its security is there
+unbroken : (room there within : Bool) → brokenOf room there within ≡ 0 → (room ≡ true) × (there ≡ true)
+unbroken false there within e = absurd (omega arith)
+unbroken true false within e = absurd (omega arith)
+unbroken true true within e = (refl, refl)
+
+-- A place that a row stands at is one of the table
+pub place-below : (place count : ℕ) → count ≤ 200 → cond (ltb place count) place 0 < 200
+place-below place count few = go (ltb place count) refl
   where
-    go : (read : TradeRead) → tradeRead sheet at ≡ read → tradeJudged sheet today working codes previous next count read ≡ found.Row trade behind
-        → (count < 500) × (behind ≡ lineAt sheet at .next)
-    go (reads.Refused number) r e = not-row e
-    go (reads.Row t next-line) r e =
-        asked (ltb count 500) refl (ltb (placeIn sheet codes (t .code)) (length codes))
-        (not (marginedRow today t) || periodHolds (accrualRow working t) (getD previous (placeIn sheet codes (t .code)) 0) (getD next (placeIn sheet codes (t .code)) 0)) e
+    go : (b : Bool) → ltb place count ≡ b → cond b place 0 < 200
+    go true e = omega (arith, ltb-true place count e)
+    go false e = omega arith
+
+-- Trade 1 is cash
+margined-alike : (trade : paper.Trade) (today first last : Day)
+    → marginedOn (eqb (tradeNumber trade) 1) today first last
+    ≡ elim trade [ cash ↦ ltb today first | repo ↦ leb first today && ltb today last ]
+margined-alike repo today first last = refl
+margined-alike cash today first last = refl
+
+accrual-alike : (trade : paper.Trade) (first working : Day)
+    → cond (eqb (tradeNumber trade) 1) first working ≡ elim trade [ cash ↦ first | repo ↦ working ]
+accrual-alike repo first working = refl
+accrual-alike cash first working = refl
+
+pub accrual-below : (cash : Bool) {first working : Day} → first < 146_097 → working < 150_000 → cond cash first working < 150_000
+accrual-below true h k = omega arith
+accrual-below false h k = k
+
+-- ---- a row's numbers
+
+real-below : (d : Date) → isDay d ≡ true → day d < 146_097
+real-below d e = go (dayOf d) (day-below d) e
+  where
+    go : (o : Option Day) → ((x : Day) → o ≡ some x → x < 146_097) → given o ≡ true → Option·getD o 0 < 146_097
+    go none low e = never e
+    go (some x) low e = low x refl
+
+trade-most : (trade : paper.Trade) → tradeNumber trade ≤ 1
+trade-most repo = omega arith
+trade-most cash = omega arith
+
+side-most : (side : paper.Side) → sideNumber side ≤ 1
+side-most seller = omega arith
+side-most purchaser = omega arith
+
+small : (sheet : Text) (at : Place) (t : paper.TradeRow) → TradeFacts t → Small (heldRow sheet at t)
+small sheet at t f =
+    record { nominal = f .nominal-high; first = real-below (t .first) (f .first); trade = trade-most (t .trade); side = side-most (t .side) }
+
+-- ---- what the code makes of a row
+
+module _ (today working : Day) (securities : Securities) where
+  abbrev kind : RowKind paper.TradeRow
+  kind = tradeKind today (periodIn securities)
+
+  abbrev codes : List ℕ
+  codes = take (securities .count) (securities .codes)
+
+  abbrev placeOf : TradeRow → ℕ
+  placeOf t = numberPlace codes (t .number)
+
+  abbrev pub knownOf : TradeRow → ℕ
+  knownOf t = cond (ltb (placeOf t) (securities .count)) (placeOf t) 0
+
+  abbrev pub marginedRow : TradeRow → Bool
+  marginedRow t = marginedOn (eqb (t .trade) 1) today (t .first) (t .last)
+
+  abbrev pub accrualRow : TradeRow → Day
+  accrualRow t = cond (eqb (t .trade) 1) (t .first) working
+
+  abbrev within : TradeRow → Bool
+  within t = periodHolds (marginedRow t) (accrualRow t) (getD (securities .rows) (knownOf t) noSecurity)
+
+  abbrev pub brokenRow : ℕ → TradeRow → Number
+  brokenRow count t = brokenOf (ltb count 500) (ltb (placeOf t) (securities .count)) (within t)
+
+  abbrev pub keptRow : TradeRow → Trade
+  keptRow t = tradeOf t (knownOf t) (marginedRow t) (accrualRow t)
+
+  -- It is judged and kept as the paper's row is
+  module _ (is-working : working ≡ workingAfter today) (sheet : Text) (at : Place) (t : paper.TradeRow) where
+    abbrev held : TradeRow
+    held = heldRow sheet at t
+
+    margined-held : marginedRow held ≡ margined today t
+    margined-held = margined-alike (t .trade) today (day (t .first)) (lastDay t)
+
+    accrual-held : accrualRow held ≡ accrualDay today t
+    accrual-held = rw is-working (accrual-alike (t .trade) (day (t .first)) (workingAfter today))
+
+    abbrev period : Bool → Option Period
+    period there = cond there (some (periodOf (getD (securities .rows) (placeOf held) noSecurity))) none
+
+    judged-alike : (above : List paper.TradeRow) → isCode (t .code) ≡ true → brokenRow (length above) held ≡ broken (kind .others above t)
+    judged-alike above coded =
+        let there = ltb (placeOf held) (securities .count) in
+        go there
+        ∙ ap (λ (is : Bool). let p = period (is && there) in broken ((8, room) ∷ (10, given p) ∷ (12, inPeriod today t p) ∷ [])) (sym coded)
       where
-        asked : (few : Bool) → ltb count 500 ≡ few → (there holds : Bool)
-            → _≡_ {A = TradeFound}
-            (elim few [ false ↦ found.Refused 8 | true ↦ elim there [ false ↦ found.Refused 10 | true ↦ elim holds [ false ↦ found.Refused 12 | true ↦ found.Row (record { row = t; security = placeIn sheet codes (t .code); margined = marginedRow today t; accrual = accrualRow working t }) next-line ] ] ])
-            (found.Row trade behind)
-            → (count < 500) × (behind ≡ lineAt sheet at .next)
-        asked false f there holds e = not-row e
-        asked true f false holds e = not-row e
-        asked true f true false e = not-row e
-        asked true f true true e =
-            let same : next-line ≡ behind = cc in
-            (ltb-true count 500 f, sym same ∙ read-row sheet at t next-line h r .2)
+        room : Bool
+        room = ltb (length above) 500
 
--- The loop after so many rows, where the securities are some
-abbrev pub TradesGoing : Text → Day → List Place → Place → List paper.SecurityRow → List Trade → ℕ → Place → Type 0
-TradesGoing sheet today codes from ss = Going sheet 84 9 readTrade (tradeRules today ss) (heldFound sheet today codes) noTrade 500 from
+        go : (there : Bool)
+            → brokenOf room there (periodHolds (marginedRow held) (accrualRow held) (getD (securities .rows) (cond there (placeOf held) 0) noSecurity))
+            ≡ broken ((8, room) ∷ (10, given (period there)) ∷ (12, inPeriod today t (period there)) ∷ [])
+        go true = rw (margined-held, accrual-held) (rules-alike room true (inPeriod today t (period true)))
+        go false = rules-alike room false false
 
--- What the paper gives
-abbrev pub wholeTrades : Text → Day → List Place → Place → List paper.SecurityRow → Outcome (List paper.TradeRow × Rest)
-wholeTrades sheet today codes from ss = whole sheet 84 9 readTrade (tradeRules today ss) (heldFound sheet today codes) noTrade 500 from
+    kept-alike : ltb (placeOf held) (securities .count) ≡ true → keptRow held ≡ heldTrade today codes t
+    kept-alike there = rw (there, margined-held, accrual-held)
 
-module _ (sheet : Text) (today : Day) (codes : List Place) (from : Place) (ss : List paper.SecurityRow) {rows : List Trade} {count : ℕ} {at : Place}
-    (g : TradesGoing sheet today codes from ss rows count at) where
-  -- At the end the table has the section's rows
-  pub all-read : goesOn sheet at (endedLength sheet) 84 ≡ false
-      → record { refusal = 0; count = count; rows = rows; next = at } ≡ heldTrades sheet today codes from (wholeTrades sheet today codes from ss)
-  all-read e =
-      let size : count ≡ length (reverse (g .above)) = g .counted ∙ sym (length-reverse (g .above)) in
-      ap (λ (l : List Trade). record { refusal = 0; count = count; rows = l; next = at }) (g .table)
-      ∙ ap₂ (λ (n : ℕ) (p : Place). record { refusal = 0; count = n; rows = padded 500 noTrade (heldFrom (heldFound sheet today codes) sheet from (reverse (g .above))); next = p }) size
-      (g .placed ∙ ap (nextAfter sheet from) size)
-      ∙ ap (heldTrades sheet today codes from) (sym (going-ended sheet 84 9 readTrade (tradeRules today ss) (heldFound sheet today codes) noTrade 500 from g e))
+-- ---- the turns
 
-  module _ (working : Day) (previous next : List Day) (is-working : working ≡ workingAfter today) (stands : Stands sheet codes previous next ss)
-      (on : goesOn sheet at (endedLength sheet) 84 ≡ true) where
-    -- A turn's row is judged as the paper judges it
-    agrees : TradeAgrees (heldFound sheet today codes at) (lineAt sheet at .next) count
-        (tradeJudged sheet today working codes previous next count (tradeRead sheet at))
-        (row (84 ∷ []) 9 readTrade (tradeRules today ss (g .above)) count (fieldsAt sheet at))
-    agrees =
-        let begun = both (ltb at (endedLength sheet)) (begins (84 ∷ []) (fieldsAt sheet at)) on .1 in
-        subst (λ (n : ℕ). TradeAgrees (heldFound sheet today codes at) (lineAt sheet at .next) n
-        (tradeJudged sheet today working codes previous next n (tradeRead sheet at))
-        (row (84 ∷ []) 9 readTrade (tradeRules today ss (g .above)) n (fieldsAt sheet at))) (sym (g .counted))
-        (trade-agrees sheet today working is-working codes previous next ss stands at (g .above) (line-on sheet at on) begun)
+-- After so many rows
+pub record Turn (today : Day) (securities : Securities) (sheet : Text) (from : Place) (rows : List Trade) (count : ℕ) (at : Place) : Type 0 where
+  pub above : List paper.TradeRow
+  pub going : Going (tradeKind today (periodIn securities)) sheet from above count at
+  pub table : rows ≡ tableOf 500 noTrade (heldTrade today (take (securities .count) (securities .codes))) (reverse above)
 
-    -- A row that is taken: the loop goes on
-    pub turn-on : (trade : Trade) (behind : Place)
-        → tradeJudged sheet today working codes previous next count (tradeRead sheet at) ≡ found.Row trade behind
-        → TradesGoing sheet today codes from ss (set rows count trade) (count + 1) behind
-    turn-on trade behind e = go agrees refl e
-      where
-        go : {f : TradeFound} {o : Outcome paper.TradeRow} → TradeAgrees (heldFound sheet today codes at) (lineAt sheet at .next) count f o
-            → row (84 ∷ []) 9 readTrade (tradeRules today ss (g .above)) count (fieldsAt sheet at) ≡ o → f ≡ found.Row trade behind
-            → TradesGoing sheet today codes from ss (set rows count trade) (count + 1) behind
-        go (trade-row t) j k =
-            let is : heldFound sheet today codes at t ≡ trade = cc in
-            let there : lineAt sheet at .next ≡ behind = cc in
-            let few = row-taken sheet today working codes previous next count at trade behind (line-on sheet at on) e .0 in
-            subst (TradesGoing sheet today codes from ss (set rows count trade) (count + 1)) there
-            (subst (λ (x : Trade). TradesGoing sheet today codes from ss (set rows count x) (count + 1) (lineAt sheet at .next)) is
-            (going-on sheet 84 9 readTrade (tradeRules today ss) (heldFound sheet today codes) noTrade 500 from g on t j few))
-        go (trade-refused number) j k = not-row k
+-- The section, as the code holds it
+abbrev made : Section → Trades → TradeSection
+made section table = record { section = section; table = table }
 
-    -- A row that is refused: its number, and the rows above it counted
-    pub turn-refused : (number : ℕ) → tradeJudged sheet today working codes previous next count (tradeRead sheet at) ≡ found.Refused number
-        → heldTrades sheet today codes from (refused number count) ≡ heldTrades sheet today codes from (wholeTrades sheet today codes from ss)
-    turn-refused number e = ap (heldTrades sheet today codes from) (sym (go agrees refl e))
-      where
-        go : {f : TradeFound} {o : Outcome paper.TradeRow} → TradeAgrees (heldFound sheet today codes at) (lineAt sheet at .next) count f o
-            → row (84 ∷ []) 9 readTrade (tradeRules today ss (g .above)) count (fieldsAt sheet at) ≡ o → f ≡ found.Refused number
-            → wholeTrades sheet today codes from ss ≡ refused number count
-        go (trade-row t) j k = not-row (sym k)
-        go (trade-refused n) j k =
-            let same : n ≡ number = cc in
-            going-refused sheet 84 9 readTrade (tradeRules today ss) (heldFound sheet today codes) noTrade 500 from g on n count j
-            ∙ ap (λ (n : ℕ). refused n count) same
+module _ (today : Day) (securities : Securities) (sheet : Text) (from : Place) where
+  abbrev table : List paper.TradeRow → Trades
+  table = tradeTable today (take (securities .count) (securities .codes))
+
+  abbrev pub result : TradeSection
+  result = loops.result (tradeKind today (periodIn securities)) sheet from made table
+
+  pub turn-start : from ≤ endedLength sheet → Turn today securities sheet from (tradeTable 0 [] [] .rows) 0 from
+  turn-start h = record { above = []; going = going-start (tradeKind today (periodIn securities)) sheet from h; table = refl }
+
+module _ {today : Day} {securities : Securities} {sheet : Text} {from : Place} {rows : List Trade} {count : ℕ} {at : Place}
+    (turn : Turn today securities sheet from rows count at) where
+  abbrev ours : RowKind paper.TradeRow
+  ours = kind today 0 securities
+
+  module _ (on : goesOn sheet at (endedLength sheet) 84 ≡ true) where
+    -- A line that is refused by itself refuses the section
+    pub turn-refused : (number : ℕ) → tradeRead sheet at ≡ reads.Refused number
+        → tradeSection 0 [] [] 0 (refused number count) ≡ result today securities sheet from
+    turn-refused number e =
+        result-refused ours sheet from made (table today securities sheet from) number count
+        (line-refused ours (λ above t. refl) 84 refl words (heldRow sheet at) (turn .going) on number e)
+
+    -- A row that was read
+    abbrev pub Read : TradeRow → Place → Type 0
+    Read = LineRow ours (λ above t. refl) 84 refl words (heldRow sheet at) (turn .going) on
+
+    pub turn-row : (t : TradeRow) (next : Place) → tradeRead sheet at ≡ reads.Row t next → Read t next
+    turn-row = line-row ours (λ above t. refl) 84 refl words (heldRow sheet at) (turn .going) on
+
+    module _ {t : TradeRow} {next : Place} (read : Read t next) {working : Day} (is-working : working ≡ workingAfter today) where
+      -- It is judged as the paper judges it
+      same : brokenRow today working securities count t ≡ broken (ours .others (turn .above) (read .row-is))
+      same =
+          let own = read .own in
+          let coded : isCode (read .row-is .code) ≡ true = search tests in
+          rw (turn .going .counted, sym (read .held-is)) (judged-alike today working securities is-working sheet at (read .row-is) (turn .above) coded)
+
+      pub turn-broken : (brokenRow today working securities count t ≡ 0 → ⊥)
+          → tradeSection 0 [] [] 0 (refused (brokenRow today working securities count t) count) ≡ result today securities sheet from
+      turn-broken other =
+          ap (λ (n : ℕ). tradeSection 0 [] [] 0 (refused n count)) same
+          ∙ result-refused ours sheet from made (table today securities sheet from) _ count (read .refuses (λ none. other (same ∙ none)))
+
+      module _ (none : brokenRow today working securities count t ≡ 0) where
+        room-there : (ltb count 500 ≡ true) × (ltb (placeOf today working securities t) (securities .count) ≡ true)
+        room-there = unbroken _ _ (within today working securities t) none
+
+        pub turn-free : count < 500
+        turn-free = ltb-true count 500 (room-there .0)
+
+        more : Going ours sheet from (read .row-is ∷ turn .above) (count + 1) next
+        more = read .goes (sym same ∙ none)
+
+        pub turn-small : Small t
+        turn-small = rw (sym (read .held-is)) (go (more .kept))
+          where
+            go : Kept ours (read .row-is ∷ turn .above) → Small (heldRow sheet at (read .row-is))
+            go (more-kept h kept) = small sheet at (read .row-is) (trade-facts today (periodIn securities) (turn .above) (read .row-is) h)
+
+        pub turn-more : Turn today securities sheet from (set rows count (keptRow today working securities t)) (count + 1) next
+        turn-more =
+            record {
+              above = read .row-is ∷ turn .above;
+              going = more;
+              table =
+                  ap (set rows count) (rw (sym (read .held-is)) (kept-alike today working securities is-working sheet at (read .row-is) (rw (sym (read .held-is)) at (room-there .1))))
+                  ∙ table-more 500 noTrade (heldTrade today (codes today working securities)) (turn .above) (turn .table) (turn .going .counted) (read .row-is) turn-free;
+            }
+
+  -- The end of the section
+  pub turn-ended : goesOn sheet at (endedLength sheet) 84 ≡ false
+      → made (record { refusal = 0; count = count; next = at }) (record { count = count; rows = rows }) ≡ result today securities sheet from
+  turn-ended off =
+      let many : count ≡ length (reverse (turn .above)) = turn .going .counted ∙ sym (length-reverse (turn .above)) in
+      result-ended ours sheet from made (table today securities sheet from) (turn .going) (going-ended ours (λ above t. refl) 84 refl (turn .going) off) _
+      (λ i. record { count = many i; rows = turn .table i })

@@ -1,1 +1,3 @@
-pub mod Tables
+pub mod Read
+pub mod Found
+pub mod Section

@@ -1,161 +1,281 @@
-// The T section of a sheet: a loop over its lines that fills a table, or ends with the refusal of a row.
-// A trade carries the place of its security, whether it is margined, and its accrual day.
+// T rows: read from their lines, judged by the S rows, and put into their table, each with the place of its security, whether it is
+// margined, and its accrual day; the section is their table, or the refusal of one.
+use days::Day;
 use fields::Place;
-use rows::DateRow;
-use rows::Day;
-use rows::Number;
-use rows::TradeRead;
-use rows::TradeRow;
-use searches::Key;
+use sections::Number;
+use sections::Section;
+use tables::Code;
+use tables::Securities;
+use tables::Security;
+use tables::Trade;
+use tables::Trades;
 ghost use mathlib.Core.Path.{_≡_};
-ghost use mathlib.Core.List.{List};
+ghost use mathlib.Core.Bool.{cond};
+ghost use mathlib.Core.List.{[]};
 ghost use Prim.Native.Nat.{_≤_, _<_};
+ghost use lib.IntN.{pos};
 ghost use lib.ListN.{take, drop};
 ghost use Rattle.paper.specs.Days.{newYears, workingAfter};
-ghost use Rattle.paper.specs.Text.{ascii, lines};
-ghost use Rattle.paper.specs.Rows.{SecurityRow, readTrade};
-ghost use Rattle.paper.specs.Refusals.{tradeRules};
+ghost use Rattle.paper.specs.Refusals.{refused, tradeKind};
+ghost use Rattle.paper.specs.Text.{lines};
 ghost use Rattle.paper.specs.Sheet.{section};
-ghost use Rattle.fields.specs.Places.{Place, endedLength};
-ghost use Rattle.rows.specs.Reads.{tradeRead};
-ghost use Rattle.searches.specs.Searches.{Coded, Rising, Searchable};
-ghost use Rattle.trades.specs.Tables.{Stands, Keyed, marginedRow, accrualRow, periodHolds, noTrade, heldTrades, foundNumber, tradeJudged};
+ghost use Rattle.fields.specs.Places.{endedLength};
+ghost use Rattle.tables.specs.Numbers.{numberPlace};
+ghost use Rattle.trades.specs.Read.{takenOf, tradeRead, readNumber};
+ghost use Rattle.trades.specs.Found.{Searchable, periodIn, marginedOn, periodHolds, brokenOf, Small, tradeOf};
+ghost use Rattle.trades.specs.Section.{tradeSection};
 
-// A trade with what judging its row found out.
-pub struct Trade {
-    pub row: TradeRow,
-    pub security: usize, // its place among the S rows
-    pub margined: bool,
-    pub accrual: Day,
+// A T row.
+pub struct TradeRow {
+    pub trade: u64, // 0 repo, 1 cash
+    pub side: u64, // 0 seller, 1 purchaser
+    pub code: Place, // where it stands
+    pub number: Code,
+    pub nominal: u64, // whole units
+    pub amount: u64, // cents
+    pub first: Day,
+    pub last: Day, // 0 for cash
+    pub rate: i64, // ten-thousandths of a percent; 0 for cash
 }
 
-pub enum TradeFound {
-    Row(Trade, Place),
+// A row and where the next line starts, or the row's refusal.
+pub enum TradeRead {
+    Row(TradeRow, Place),
     Refused(Number),
 }
 
-// The T rows, and where the next line starts; or the refusal of the row behind them, and an empty table.
-pub struct Trades {
-    pub refusal: Number, // 0 where none
-    pub count: usize, // rows
-    pub rows: [Trade; 500],
-    pub next: Place,
+// The section: how it went, and its rows; none where it is refused.
+pub struct TradeSection {
+    pub section: Section,
+    pub table: Trades,
+}
+
+// What is to hold of a trade: one thing for cash, another for a repo.
+fn holds(cash: bool, settled: bool, lasting: bool) -> bool
+    ensures { λ r. ⌜ r ≡ cond cash settled lasting ⌝ }
+{
+    if cash { settled } else { lasting }
+}
+
+// The last day of a repo; 0 for cash.
+fn last_of(cash: bool, last: Day) -> Day
+    ensures { λ r. ⌜ r ≡ cond cash 0 last ⌝ }
+{
+    if cash { 0 } else { last }
+}
+
+// The rate of a repo; 0 for cash.
+fn rate_of(
+    cash: bool,
+    rate: i64, // ten-thousandths of a percent
+) -> i64
+    ensures { λ r. ⌜ r ≡ cond cash (pos 0) rate ⌝ }
+{
+    if cash { 0 } else { rate }
+}
+
+// A row whose fields have their form, and whose dates stand as they may; or its refusal.
+fn taken(six: bool, seven: bool, row: TradeRow, next: Place) -> TradeRead
+    ensures { λ r. ⌜ r ≡ takenOf six seven row next ⌝ }
+{
+    if six {
+        if seven {
+            TradeRead::Row(row, next)
+        } else {
+            TradeRead::Refused(7)
+        }
+    } else {
+        TradeRead::Refused(6)
+    }
+}
+
+// T: trade; side; code; nominal; amount; first date; last date; rate. From the place where the line starts; `end` is the place
+// behind the last LF of the sheet.
+fn trade_row(s: &[u8], years: &[Day; 400], at: Place, end: Place) -> TradeRead
+    requires { ⌜ (at < end) × (end ≡ endedLength (now s)) × (now years ≡ newYears) ⌝ }
+    ensures { λ r. ⌜ r ≡ tradeRead (now (s .entry)) at ⌝ }
+{
+    let line = fields::line_at(s, at, end);
+    if line.count != 9 {
+        return TradeRead::Refused(5);
+    }
+    let ends = line.ends;
+    let code: Place = ends[2] + 1;
+    let trade = fields::letter_at(s, &ends, 0, 82, 67); // 0 repo, 1 cash
+    let side = fields::letter_at(s, &ends, 1, 83, 80); // 0 seller, 1 purchaser
+    let number = fields::code_at(s, &ends, 2); // of the code
+    let nominal = fields::number_at(s, &ends, 3, 1, 100_000_000); // whole units
+    let amount = fields::number_at(s, &ends, 4, 1, 30_000_000_000); // cents
+    let first = fields::day_at(s, years, &ends, 5);
+    let last = fields::day_at(s, years, &ends, 6);
+    let rate = fields::rate_at(s, &ends, 7); // ten-thousandths of a percent
+    let cash = trade == 1;
+    let blank = fields::is_blank(&ends, 6) & fields::is_blank(&ends, 7);
+    // Blank for cash; a rate for a repo, whose last date is left to refusal 7.
+    let termed = holds(cash, blank, fields::is_rate(rate));
+    let six = fields::is_read(trade)
+        & fields::is_read(side)
+        & fields::is_read(number)
+        & fields::is_read(nominal)
+        & fields::is_read(amount)
+        & termed;
+    let seven = holds(
+        cash,
+        fields::is_read(first),
+        days::follows(first, last, 730),
+    );
+    let row = TradeRow {
+        trade: trade,
+        side: side,
+        code: code,
+        number: number,
+        nominal: nominal,
+        amount: amount,
+        first: first,
+        last: last_of(cash, last),
+        rate: rate_of(cash, rate),
+    };
+    taken(six, seven, row, line.next)
+}
+
+// The refusal of what was read, 0 for a row.
+fn trade_number(read: TradeRead) -> Number
+    ensures { λ r. ⌜ r ≡ readNumber read ⌝ }
+{
+    match read {
+        TradeRead::Row(_, _) => 0,
+        TradeRead::Refused(number) => number,
+    }
+}
+
+// The place of a code among rising ones, by quarters; as many as there are where it is not there. Four turns, whatever the
+// count: the compiler makes them one after the other, without a branch that could be guessed wrong, and the three codes of a
+// turn are looked at side by side.
+fn find(
+    codes: &[Code; 256],
+    count: usize, // codes
+    code: Code,
+) -> usize
+    requires { ⌜ (count ≤ 200) × Searchable (now codes) count ⌝ }
+    ensures { λ r. ⌜ r ≡ numberPlace (take count (now (codes .entry))) code ⌝ }
+{
+    let codes: &[Code] = codes; // as a slice: a proof is told its length
+    let mut low: usize = 0; // the codes before it are below the code
+    let mut size: usize = 256; // codes from there on, among which the first that is not below it stands
+    while 1 < size {
+        let part = size / 4; // codes
+        let first = if codes[low + part - 1] < code {
+            part
+        } else {
+            0
+        }; // codes
+        let second = if codes[low + 2 * part - 1] < code {
+            part
+        } else {
+            0
+        }; // codes
+        let third = if codes[low + 3 * part - 1] < code {
+            part
+        } else {
+            0
+        }; // codes
+        low += first + second + third;
+        size = part;
+    }
+    if codes[low] == code { low } else { count }
+}
+
+// The place of a security that is there; else the first, which is one of the table too.
+fn place_or_first(
+    there: bool,
+    place: usize, // of a row
+) -> usize
+    ensures { λ r. ⌜ r ≡ cond there place 0 ⌝ }
+{
+    if there { place } else { 0 }
 }
 
 // Whether a trade is margined on a calculation day.
-fn is_margined(today: Day, row: TradeRow) -> bool
-    ensures { λ r. ⌜ r ≡ marginedRow today row ⌝ }
+fn is_margined(cash: bool, today: Day, first: Day, last: Day) -> bool
+    ensures { λ r. ⌜ r ≡ marginedOn cash today first last ⌝ }
 {
-    let first = row.first.day;
-    let last = row.last.day;
-    if row.trade == 1 {
-        return today < first;
-    }
-    if today < first {
-        return false;
-    }
-    today < last
+    holds(cash, today < first, (first <= today) & (today < last))
 }
 
 // The accrual day of a trade; `working` is the first working day after calculation.
-fn accrual_day(working: Day, row: TradeRow) -> Day
-    ensures { λ r. ⌜ r ≡ accrualRow working row ⌝ }
+fn accrual_day(cash: bool, first: Day, working: Day) -> Day
+    ensures { λ r. ⌜ r ≡ cond cash first working ⌝ }
 {
-    if row.trade == 1 {
-        row.first.day
-    } else {
-        working
-    }
+    if cash { first } else { working }
 }
 
-// Whether a day is at or after the previous and before the next coupon date.
-fn in_period(day: Day, previous: Day, next: Day) -> bool
-    ensures { λ r. ⌜ r ≡ periodHolds day previous next ⌝ }
+// What the table keeps of a row.
+fn trade_of(
+    row: TradeRow,
+    security: usize, // its place
+    margined: bool,
+    accrual: Day,
+) -> Trade
+    requires { ⌜ Small row × (security < 200) × (accrual < 150_000) ⌝ }
+    ensures { λ r. ⌜ r ≡ tradeOf row security margined accrual ⌝ }
 {
-    if day < previous {
-        return false;
-    }
-    day < next
-}
-
-// What stands where the table has no row.
-fn no_trade() -> Trade
-    ensures { λ r. ⌜ r ≡ noTrade ⌝ }
-{
-    let row = TradeRow {
-        trade: 0,
-        side: 0,
-        code: 0,
-        key: 0,
-        nominal: 0,
-        amount: 0,
-        first: DateRow { date: 0, day: 0 },
-        last: DateRow { date: 0, day: 0 },
-        rate: 0,
-    };
     Trade {
-        row: row,
-        security: 0,
-        margined: false,
-        accrual: 0,
-    }
-}
-
-// The number of a refusal, 0 for a row.
-fn found_number(found: TradeFound) -> Number
-    ensures { λ r. ⌜ r ≡ foundNumber found ⌝ }
-{
-    match found {
-        TradeFound::Row(_, _) => 0,
-        TradeFound::Refused(number) => number,
-    }
-}
-
-// A T row with those above it and the securities: its fields, then 8, 10 and 12.
-fn trade_at(
-    s: &[u8],
-    years: &[Day; 400],
-    at: Place,
-    end: Place,
-    today: Day,
-    working: Day,
-    keys: &[Key; 256], // of the securities, rising
-    previous: &[Day; 200], // coupon
-    next: &[Day; 200], // coupon
-    many: usize, // securities
-    count: usize, // rows above
-) -> TradeFound
-    requires { ⌜ (at < end) × (end ≡ endedLength (now s)) × (now years ≡ newYears) × (many ≤ 200) × Searchable (now keys) many ⌝ }
-    ensures { λ r. ⌜ ((codes : List Place) → Keyed (now (s .entry)) (now (keys .entry)) many codes → r ≡ tradeJudged (now (s .entry)) today working codes (take many (now (previous .entry))) (take many (now (next .entry))) count (tradeRead (now (s .entry)) at)) ⌝ }
-{
-    let read = rows::trade_row(s, years, at, end);
-    let TradeRead::Row(row, behind) = read else {
-        return TradeFound::Refused(rows::trade_number(read));
-    };
-    if 500 <= count {
-        return TradeFound::Refused(8);
-    }
-    let place = searches::find(keys, many, row.key);
-    if many <= place {
-        return TradeFound::Refused(10);
-    }
-    let margined = is_margined(today, row);
-    let accrual = accrual_day(working, row);
-    if margined {
-        if !in_period(accrual, previous[place], next[place]) {
-            return TradeFound::Refused(12);
-        }
-    }
-    let trade = Trade {
-        row: row,
-        security: place,
+        amount: row.amount,
+        rate: row.rate,
+        nominal: row.nominal as u32,
+        first: row.first as u32,
+        accrual: accrual as u32,
+        security: security as u8,
+        trade: row.trade as u8,
+        side: row.side as u8,
         margined: margined,
-        accrual: accrual,
-    };
-    TradeFound::Row(trade, behind)
+    }
 }
 
-// The T rows from a place on; `today` is the calculation day and `working` the first working day after it.
+// Whether an accrual day is in the coupon period of its security, as a margined trade asks.
+fn in_period(margined: bool, day: Day, security: Security) -> bool
+    ensures { λ r. ⌜ r ≡ periodHolds margined day security ⌝ }
+{
+    let began = security.previous as u64 <= day;
+    let runs = day < security.next as u64;
+    !margined | (began & runs)
+}
+
+// The rule that a row breaks, 0 where it breaks none: 8 there is room, 10 its security is there, 12 its accrual day is in the
+// coupon period.
+fn broken(room: bool, there: bool, within: bool) -> Number
+    ensures { λ r. ⌜ r ≡ brokenOf room there within ⌝ }
+{
+    if room {
+        if there {
+            if within { 0 } else { 12 }
+        } else {
+            10
+        }
+    } else {
+        8
+    }
+}
+
+// The section with a refusal, so many rows above it.
+fn refused(
+    number: Number,
+    count: usize, // rows above
+) -> TradeSection
+    ensures { λ r. ⌜ r ≡ tradeSection 0 [] [] 0 (refused number count) ⌝ }
+{
+    TradeSection {
+        section: Section {
+            refusal: number,
+            count: count,
+            next: 0,
+        },
+        table: tables::no_trades(),
+    }
+}
+
+// The T rows from a place on; `today` is the calculation day and `working` the first working day after it. `end` is the place
+// behind the last LF of the sheet.
 pub fn trade_section(
     s: &[u8],
     years: &[Day; 400],
@@ -163,50 +283,47 @@ pub fn trade_section(
     end: Place,
     today: Day,
     working: Day,
-    codes: &[Place; 200], // of the securities, rising
-    previous: &[Day; 200], // coupon
-    next: &[Day; 200], // coupon
-    many: usize, // securities
-) -> Trades
-    requires { ⌜ (from ≤ end) × (end ≡ endedLength (now s)) × (now years ≡ newYears) × (working ≡ workingAfter today) × (many ≤ 200) ⌝ }
-    requires { ⌜ Coded (now s) (take many (now codes)) × Rising (now s) (take many (now codes)) ⌝ }
-    ensures { λ r. ⌜ ((ss : List SecurityRow) → Stands (now (s .entry)) (take many (now (codes .entry))) (take many (now (previous .entry))) (take many (now (next .entry))) ss → r ≡ heldTrades (now (s .entry)) today (take many (now (codes .entry))) from (section (ascii "T") 9 readTrade (tradeRules today ss) (0, lines (drop from (now (s .entry)))))) ⌝ }
+    securities: Securities,
+) -> TradeSection
+    requires { ⌜ (from ≤ end) × (end ≡ endedLength (now s)) × (now years ≡ newYears) × (working ≡ workingAfter today) × (working < 150_000) ⌝ }
+    requires { ⌜ (securities .count ≤ 200) × Searchable (securities .codes) (securities .count) ⌝ }
+    ensures { λ r. ⌜ r ≡ tradeSection today (take (securities .count) (securities .codes)) (now (s .entry)) from (section (tradeKind today (periodIn securities)) (0, lines (drop from (now (s .entry))))) ⌝ }
 {
-    let keys = searches::keys_of(s, codes, many);
-    let codes: &[Place] = codes; // as a slice: a proof is told its length
-    let mut rows: [Trade; 500] = [no_trade(); 500];
+    let codes = securities.codes;
+    let held = securities.rows;
+    let none = tables::no_trades();
+    let mut rows = none.rows;
     let mut count: usize = 0; // rows
     let mut at: Place = from;
-    while rows::goes_on(s, at, end, 84) {
-        let found = trade_at(
-            s,
-            years,
-            at,
-            end,
-            today,
-            working,
-            &keys,
-            previous,
-            next,
-            many,
-            count,
-        );
-        let TradeFound::Row(trade, behind) = found else {
-            return Trades {
-                refusal: found_number(found),
-                count: count,
-                rows: [no_trade(); 500],
-                next: 0,
-            };
+    while sections::goes_on(s, at, end, 84) {
+        let read = trade_row(s, years, at, end);
+        let TradeRead::Row(row, next) = read else {
+            return refused(trade_number(read), count);
         };
-        rows[count] = trade;
+        let place = find(&codes, securities.count, row.number); // of its security
+        let there = place < securities.count;
+        let known = place_or_first(there, place);
+        let cash = row.trade == 1;
+        let margined = is_margined(cash, today, row.first, row.last);
+        let accrual = accrual_day(cash, row.first, working);
+        let within = in_period(margined, accrual, held[known]);
+        let number = broken(count < 500, there, within); // of a refusal
+        if number != 0 {
+            return refused(number, count);
+        }
+        rows[count] = trade_of(row, known, margined, accrual);
         count += 1;
-        at = behind;
+        at = next;
     }
-    Trades {
-        refusal: 0,
-        count: count,
-        rows: rows,
-        next: at,
+    TradeSection {
+        section: Section {
+            refusal: 0,
+            count: count,
+            next: at,
+        },
+        table: Trades {
+            count: count,
+            rows: rows,
+        },
     }
 }

@@ -1,15 +1,16 @@
 // One trade, valued: accrued coupon, revaluated amount, repo interest, sign and mark-to-market.
 // Whether it is margined, and to which day its coupon accrues, its row knows already.
-use rows::Day;
-use securities::Security;
-use trades::Trade;
+use tables::Security;
+use tables::Trade;
 ghost use mathlib.Core.Path.{_≡_};
 ghost use mathlib.Core.Bool.{true};
 ghost use Prim.Native.Nat.{_≤_};
 ghost use lib.IntN.{natAbs};
 ghost use Rattle.paper.specs.Valuation.{accrued as accruedOf, revaluated as revaluatedOf, interest as interestFor, signOf, markToMarket};
-ghost use Rattle.paper.proofs.Bounds.{mostQuote, mostWorth, mostInterestDays, mostInterest};
+ghost use Rattle.paper.specs.Bounds.{mostQuote, mostWorth, mostInterestDays, mostInterest};
 ghost use Rattle.valuation.specs.Valued.{Quoted, Ranged, tradeOf, sideOf, quoteOn, interestOn, valueOf};
+
+pub type Day = u32; // from 1 January 2000
 
 pub type Days = u64; // a number of days
 
@@ -67,8 +68,8 @@ pub fn interest(days: Days, amount: Cents, rate: Rate) -> SignedWhole
 
 // +1 for who is to receive the bond, -1 for who is to deliver it.
 pub fn sign_of(
-    trade: u64, // 0 repo, 1 cash
-    side: u64, // 0 seller, 1 purchaser
+    trade: u8, // 0 repo, 1 cash
+    side: u8, // 0 seller, 1 purchaser
 ) -> Sign
     ensures { λ r. ⌜ r ≡ signOf (tradeOf trade) (sideOf side) ⌝ }
 {
@@ -104,10 +105,15 @@ fn quote_on(security: Security, day: Day) -> Quote
     requires { ⌜ Quoted security day ⌝ }
     ensures { λ r. ⌜ r ≡ quoteOn security day ⌝ }
 {
-    let row = security.row;
-    let previous = row.previous.day;
-    let next = row.next.day;
-    row.price + accrued(row.coupon, row.payments, day - previous, next - previous)
+    let run = (day - security.previous) as u64; // days
+    let period = (security.next - security.previous) as u64; // days
+    let coupon = accrued(
+        security.coupon as u64,
+        security.payments as u64,
+        run,
+        period,
+    );
+    security.price as u64 + coupon
 }
 
 // The interest of a trade: cash has none, a repo's runs from its first day to its accrual day.
@@ -115,13 +121,11 @@ fn interest_of(trade: Trade) -> SignedWhole
     requires { ⌜ Ranged trade ⌝ }
     ensures { λ r. ⌜ r ≡ interestOn trade ⌝ }
 {
-    let row = trade.row;
-    if row.trade == 1 {
+    if trade.trade == 1 {
         return 0;
     }
-    let from = row.first.day;
-    let until = trade.accrual;
-    interest(until - from, row.amount, row.rate)
+    let days = (trade.accrual - trade.first) as u64;
+    interest(days, trade.amount, trade.rate)
 }
 
 // The figures of a trade in its security.
@@ -132,11 +136,10 @@ pub fn value_of(trade: Trade, security: Security) -> Valued
     if !trade.margined {
         return Valued { worth: 0, mark: 0 };
     }
-    let row = trade.row;
-    let worth = revaluated(row.nominal, quote_on(security, trade.accrual)); // cents
-    let sign = sign_of(row.trade, row.side);
+    let worth = revaluated(trade.nominal as u64, quote_on(security, trade.accrual)); // cents
+    let sign = sign_of(trade.trade, trade.side);
     Valued {
         worth: whole::product(whole::positive(worth), sign),
-        mark: mark_to_market(worth, row.amount, interest_of(trade), sign),
+        mark: mark_to_market(worth, trade.amount, interest_of(trade), sign),
     }
 }

@@ -16,7 +16,7 @@ use Rattle.paper.specs.Lists.{between}
 use Rattle.paper.specs.Text.{isDigit, isLetter}
 use Rattle.paper.proofs.Lists.{never, bounds}
 use Rattle.fields.specs.Values.{byteCounts, checkedOr}
-use Rattle.fields.proofs.Numbers.{mixed-within}
+use Rattle.tables.proofs.Numbers.{mixed-within}
 use Rattle.fields.proofs.Checks.{mixed, table-at, Its, Judged, none, some, judged, Read, Moved, room, start, stopped, next, ended}
 use Rattle.fields.proofs.checked_number.Statement.{statement}
 use Rattle.fields.proofs.checked_number.Tie as tie

@@ -13,7 +13,7 @@ use Rattle.paper.specs.Lists.{every}
 use Rattle.paper.specs.Text.{isDigit, decimal, dateIn}
 use Rattle.paper.proofs.Lists.{when-some}
 use Rattle.fields.specs.Values.{digitsIn}
-use Rattle.fields.proofs.Answers.{when-none, digits-told}
+use Rattle.fields.proofs.Readings.{when-none, read-some}
 use Rattle.fields.proofs.date_in.Statement.{statement}
 use Rattle.fields.proofs.date_in.Tie as tie
 
@@ -58,7 +58,7 @@ returns-3 c =
     let t = slice (a .at) (a .end) (a .s .now) in
     let n = c .before .digits-in .result in
     let size = length-slice (a .at) (a .end) (a .s .now) (omega arith) in
-    sym (eight-digits t n (size ∙ c .before .before .if1 .left) (digits-told (digitsIn t) n (c .before .digits-in .ensures .0) (c .if2 .left)))
+    sym (eight-digits t n (size ∙ c .before .before .if1 .left) (read-some (digitsIn t) n (c .before .digits-in .ensures .0) (c .if2 .left)))
 
 pub date-in-spec : {M : Type 1} → statement M
 date-in-spec =

@@ -16,7 +16,7 @@ use Rattle.paper.specs.Units.{Byte, Text}
 use Rattle.paper.specs.Lists.{every}
 use Rattle.paper.specs.Text.{isDigit, decimal}
 use Rattle.paper.proofs.Lists.{bounds}
-use Rattle.fields.specs.Values.{digitsIn, digitsOr}
+use Rattle.fields.specs.Values.{digitsIn, orHighest}
 use Rattle.fields.proofs.digits_in.Statement.{statement}
 use Rattle.fields.proofs.digits_in.Tie as tie
 
@@ -30,7 +30,7 @@ record Read (s : Text) (at end : ℕ) (n : ℕ) (i : ℕ) : Type 0 where
 
 -- What the function tells: the number, and that the highest is no number of digits
 abbrev Told : Text → ℕ → Type 0
-Told t n = (n ≡ digitsOr (digitsIn t)) × (n ≡ 18446744073709551615 → digitsIn t ≡ none)
+Told t n = (n ≡ orHighest (digitsIn t)) × (n ≡ 18446744073709551615 → digitsIn t ≡ none)
 
 module _ (s : Text) (at end : ℕ) (ends : end ≤ length s) (few : end ≤ at + 19) where
   -- The number so far has at most as many digits as were read

@@ -9,7 +9,7 @@ use borrow.Author.Needs.{needs}
 use lib.ListN.{length}
 use lib.Seq.{slice, length-slice}
 use Rattle.paper.specs.Units.{Text}
-use Rattle.fields.specs.Values.{value, durationIn}
+use Rattle.fields.specs.Values.{orHighest, durationIn}
 use Rattle.fields.proofs.duration_in.Statement.{statement}
 use Rattle.fields.proofs.duration_in.Tie as tie
 
@@ -29,19 +29,19 @@ ranged-in-requires c κs = search needs
 returns : tie.Need-returns
 returns c =
     let a = c .before .before .before .args in
-    c .ranged-in .ensures ∙ sym (ap (λ (has : Bool). value (durationIn has (slice (a .at) (a .end) (a .s .now)))) (c .before .if1 .taken))
+    c .ranged-in .ensures ∙ sym (ap (λ (has : Bool). orHighest (durationIn has (slice (a .at) (a .end) (a .s .now)))) (c .before .if1 .taken))
 
 returns-2 : tie.Need-returns-2
 returns-2 c =
     let a = c .before .before .before .args in
     let size = length-slice (a .at) (a .end) (a .s .now) (omega arith) in
-    sym (ap value (blank (a .has) (slice (a .at) (a .end) (a .s .now)) (c .before .if1 .left) (omega arith)))
+    sym (ap orHighest (blank (a .has) (slice (a .at) (a .end) (a .s .now)) (c .before .if1 .left) (omega arith)))
 
 returns-3 : tie.Need-returns-3
 returns-3 c =
     let a = c .before .before .before .args in
     let size = length-slice (a .at) (a .end) (a .s .now) (omega arith) in
-    sym (ap value (filled (a .has) (slice (a .at) (a .end) (a .s .now)) (c .before .if1 .left) (omega arith)))
+    sym (ap orHighest (filled (a .has) (slice (a .at) (a .end) (a .s .now)) (c .before .if1 .left) (omega arith)))
 
 pub duration-in-spec : {M : Type 1} → statement M
 duration-in-spec = tie.close (tie.spec ranged-in-requires returns returns-2 returns-3)

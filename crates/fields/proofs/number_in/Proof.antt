@@ -15,8 +15,7 @@ use Rattle.paper.specs.Units.{Byte, Text}
 use Rattle.paper.specs.Lists.{every, between}
 use Rattle.paper.specs.Text.{isDigit, isNumber, numberIn}
 use Rattle.paper.proofs.Lists.{every-step}
-use Rattle.fields.specs.Values.{value, digitsIn}
-use Rattle.fields.proofs.Answers.{digits-told}
+use Rattle.fields.specs.Values.{orHighest, digitsIn}
 use Rattle.fields.proofs.number_in.Statement.{statement}
 use Rattle.fields.proofs.number_in.Tie as tie
 
@@ -71,13 +70,13 @@ returns : tie.Need-returns
 returns c =
     let a = c .before .before .args in
     let t = slice (a .at) (a .end) (a .s .now) in
-    sym (ap value (no-form t (blank t (omega (arith, length-slice (a .at) (a .end) (a .s .now) (omega arith))))))
+    sym (ap orHighest (no-form t (blank t (omega (arith, length-slice (a .at) (a .end) (a .s .now) (omega arith))))))
 
 returns-2 : tie.Need-returns-2
 returns-2 c =
     let a = c .before .before .before .args in
     let t = slice (a .at) (a .end) (a .s .now) in
-    sym (ap value (too-long t (omega (arith, length-slice (a .at) (a .end) (a .s .now) (omega arith)))))
+    sym (ap orHighest (too-long t (omega (arith, length-slice (a .at) (a .end) (a .s .now) (omega arith)))))
 
 shared-slice-read-if4 : tie.Need-shared-slice-read-if4
 shared-slice-read-if4 c = search needs
@@ -87,7 +86,7 @@ returns-3 c =
     let a = c .before .before .before .before .before .before .args in
     let t = slice (a .at) (a .end) (a .s .now) in
     let size = length-slice (a .at) (a .end) (a .s .now) (omega arith) in
-    sym (ap value (no-form t (zero-first t (omega arith) (first (a .s .now) (a .at) (a .end) (omega arith) (omega arith) ∙ c .if4 .taken))))
+    sym (ap orHighest (no-form t (zero-first t (omega arith) (first (a .s .now) (a .at) (a .end) (omega arith) (omega arith) ∙ c .if4 .taken))))
 
 digits-in-requires : tie.Need-digits-in-requires
 digits-in-requires c κs = search needs
@@ -109,12 +108,7 @@ module _ (c : tie.After-digits-in) where
       as-digits field (omega arith) (all-digits field (omega arith) front)
 
 returns-4 : tie.Need-returns-4
-returns-4 c = sym (ap value (left (c .before) ∙ c .before .digits-in .ensures .1 (c .if5 .taken)))
-
-returns-5 : tie.Need-returns-5
-returns-5 c =
-    let b = c .before in
-    sym (ap value (left b ∙ digits-told (digitsIn (field b)) (b .digits-in .result) (b .digits-in .ensures .0) (c .if5 .left)))
+returns-4 c = c .digits-in .ensures .0 ∙ sym (ap orHighest (left c))
 
 pub number-in-spec : {M : Type 1} → statement M
 number-in-spec =
@@ -126,5 +120,4 @@ number-in-spec =
     shared-slice-read-if4
     returns-3
     digits-in-requires
-    returns-4
-    returns-5)
+    returns-4)

@@ -1,27 +1,28 @@
 -- `fields::rate_in` meets its contract: behind a `-` a number from 1, and else a number from 0, is a rate up to the same size.
 use Prim.Native.Nat.{ℕ, zero, suc, _+_, _≤_, _<_, _^_}
-use native.Mathlib.Numerals.{add-one}
 use native.Mathlib.Omega.{arith}
 use mathlib.Core.Bool.{Bool, true, false}
-use mathlib.Core.List.{[], _∷_}
+use mathlib.Core.List.{_∷_}
 use mathlib.Core.Option.{Option, none, some, Option·map}
 use mathlib.Core.Path.{_≡_, refl, sym, ap, _∙_}
+use mir.Syntax.{w64}
+use mir.Val.{toZ, ofZ}
 use borrow.Author.Needs.{needs}
 use borrow.Author.Tests.{eq-eqb, ne-eqb, le-leb}
 use lib.Dec.{leb}
 use lib.IntN.{ℤ, pos, negℤ, natAbs}
 use lib.ListN.{length, getD}
-use lib.Seq.{slice, slice-cons, slice-empty}
+use lib.Seq.{slice}
 use Rattle.paper.specs.Units.{Byte, Text}
 use Rattle.paper.specs.Lists.{between, when, _>>=_}
 use Rattle.paper.specs.Text.{hyphen, numberIn, below, signedIn}
 use Rattle.paper.specs.Refusals.{isRate}
 use Rattle.paper.proofs.Sizes.{size-neg}
 use Rattle.whole.proofs.Signs.{read-back}
-use Rattle.fields.specs.Values.{value, signed, rangedIn, rateIn}
-use Rattle.fields.specs.declared.Value.the-variants as values
-use Rattle.fields.specs.declared.Signed.the-variants as signs
-use Rattle.fields.proofs.Answers.{is-value, not-value, ranged-bounds}
+use Rattle.tables.specs.Numbers.{highest}
+use Rattle.fields.specs.Values.{orHighest, signedOr, rangedIn, rateIn}
+use Rattle.fields.proofs.Parts.{part-step, part-empty}
+use Rattle.fields.proofs.Readings.{read-some, ranged-bounds}
 use Rattle.fields.proofs.rate_in.Statement.{statement}
 use Rattle.fields.proofs.rate_in.Tie as tie
 
@@ -53,34 +54,47 @@ with-sign b t e = rw (eq-eqb b hyphen e, signedIn) (minus-rate (numberIn t))
 without : (b : Byte) (t : Text) → (b ≡ hyphen → ⊥) → rateIn (b ∷ t) ≡ Option·map pos (rangedIn 0 200_000 (b ∷ t))
 without b t n = rw (ne-eqb b hyphen n, signedIn) (plus-rate (numberIn (b ∷ t)))
 
--- What `ranged_in` answered of the size is the answer, with the sign
-module _ (sign : ℕ → ℤ) (t : Text) (o : Option ℕ) (e : rateIn t ≡ Option·map sign o) where
-  no-rate : value o ≡ values.Not → signs.Not ≡ signed (rateIn t)
-  no-rate k = rw (e, not-value o k)
+-- A rate by what `ranged_in` read of its size
+record Sized (sign : ℕ → ℤ) (t : Text) (n : ℕ) : Type 0 where
+  lowest : ℕ
+  size : Text
+  signed : rateIn t ≡ Option·map sign (rangedIn lowest 200_000 size)
+  read : n ≡ orHighest (rangedIn lowest 200_000 size)
 
-  is-rate : (n : ℕ) → value o ≡ values.Is n → {z : ℤ} → z ≡ sign n → signs.Is z ≡ signed (rateIn t)
-  is-rate n k p = rw (e, is-value o n k, p)
+module _ {sign : ℕ → ℤ} {t : Text} {n : ℕ} (w : Sized sign t n) where
+  -- Nothing was read
+  no-rate : n ≡ highest → pos 9223372036854775807 ≡ signedOr (rateIn t)
+  no-rate h = go (rangedIn (w .lowest) 200_000 (w .size)) refl
+    where
+      go : (o : Option ℕ) → rangedIn (w .lowest) 200_000 (w .size) ≡ o → pos 9223372036854775807 ≡ signedOr (rateIn t)
+      go none g = rw (w .signed, g)
+      go (some m) g =
+          let same : n ≡ m = w .read ∙ ap orHighest g in
+          absurd (omega (arith, ranged-bounds (w .lowest) 200_000 (w .size) m g))
 
--- A size fits
-small : (lowest : ℕ) (t : Text) (n : ℕ) → value (rangedIn lowest 200_000 t) ≡ values.Is n → n < 2 ^ 63
-small lowest t n k = omega (arith, ranged-bounds lowest 200_000 t n (is-value (rangedIn lowest 200_000 t) n k))
+  -- A size was, and has a sign
+  module _ (h : n ≡ highest → ⊥) where
+    is : rangedIn (w .lowest) 200_000 (w .size) ≡ some n
+    is = read-some (rangedIn (w .lowest) 200_000 (w .size)) n (w .read) h
 
+    small : n < 2 ^ 63
+    small = omega (arith, ranged-bounds (w .lowest) 200_000 (w .size) n is)
+
+    is-rate : natAbs (sign n) ≡ n → {r : ℤ} → r ≡ sign n → toZ w64 (ofZ w64 r) ≡ signedOr (rateIn t)
+    is-rate same p = read-back (sign n) p (rw same small) ∙ rw (w .signed, is)
+
+-- A field that is not blank, by its first byte
 module _ (s : Text) (at end : ℕ) (h : at < end) (k : end ≤ length s) where
-  front : slice at end s ≡ getD s at 0 ∷ slice (at + 1) end s
-  front = rw add-one (slice-cons at end s 0 h k)
-
   below-zero : getD s at 0 ≡ hyphen → rateIn (slice at end s) ≡ Option·map minus (rangedIn 1 200_000 (slice (at + 1) end s))
-  below-zero e = rw front (with-sign (getD s at 0) (slice (at + 1) end s) e)
+  below-zero e = rw (part-step s at end h k) (with-sign (getD s at 0) (slice (at + 1) end s) e)
 
   above-zero : (getD s at 0 ≡ hyphen → ⊥) → rateIn (slice at end s) ≡ Option·map pos (rangedIn 0 200_000 (slice at end s))
-  above-zero n = rw front (without (getD s at 0) (slice (at + 1) end s) n)
+  above-zero n = rw (part-step s at end h k) (without (getD s at 0) (slice (at + 1) end s) n)
 
 returns : tie.Need-returns
 returns c =
     let a = c .before .before .args in
-    let none : slice (a .at) (a .end) (a .s .now) ≡ [] =
-    ap (λ (k : ℕ). slice (a .at) k (a .s .now)) (c .if1 .taken) ∙ slice-empty (a .at) (a .s .now) in
-    sym (ap (λ (t : Text). signed (rateIn t)) none)
+    rw (part-empty (a .s .now) (a .at) (a .end) (sym (c .if1 .taken)))
 
 shared-slice-read-if2 : tie.Need-shared-slice-read-if2
 shared-slice-read-if2 c = search needs
@@ -91,69 +105,49 @@ add-ranged-in c = search needs
 ranged-in-requires : tie.Need-ranged-in-requires
 ranged-in-requires c κs = search needs
 
-enum-known-n : tie.Need-enum-known-n
-enum-known-n c = search needs
+-- What is read behind a `-`, and without one
+with-hyphen : (c : tie.After-ranged-in)
+    → let a = c .before .before .before .before .before .args in Sized minus (slice (a .at) (a .end) (a .s .now)) (c .ranged-in .result)
+with-hyphen c =
+    let a = c .before .before .before .before .before .args in
+    record {
+      lowest = 1;
+      size = slice (a .at + 1) (a .end) (a .s .now);
+      signed = below-zero (a .s .now) (a .at) (a .end) (omega arith) (omega arith) (c .before .if2 .taken);
+      read = c .ranged-in .ensures;
+    }
 
-enum-told : tie.Need-enum-told
-enum-told c = search needs
+no-hyphen : (c : tie.After-ranged-in2)
+    → let a = c .before .before .before .before .before .args in Sized pos (slice (a .at) (a .end) (a .s .now)) (c .ranged-in2 .result)
+no-hyphen c =
+    let a = c .before .before .before .before .before .args in
+    record {
+      lowest = 0;
+      size = slice (a .at) (a .end) (a .s .now);
+      signed = above-zero (a .s .now) (a .at) (a .end) (omega arith) (omega arith) (c .before .if2 .left);
+      read = c .ranged-in2 .ensures;
+    }
 
 returns-2 : tie.Need-returns-2
-returns-2 c =
-    let a = c .before .before .before .before .before .before .before .args in
-    let t = slice (a .at) (a .end) (a .s .now) in
-    let o = rangedIn 1 200_000 (slice (a .at + 1) (a .end) (a .s .now)) in
-    no-rate minus t o (below-zero (a .s .now) (a .at) (a .end) (omega arith) (omega arith) (c .before .before .before .if2 .taken))
-    (sym (c .before .before .ranged-in .ensures) ∙ c .enum-told .given .1)
+returns-2 c = no-rate (with-hyphen (c .before)) (c .if3 .taken)
 
 negative-requires : tie.Need-negative-requires
-negative-requires c κs =
-    let a = c .before .before .before .before .before .before .before .before .args in
-    small 1 (slice (a .at + 1) (a .end) (a .s .now)) (c .before .n .given .0 .0)
-    (sym (c .before .before .before .ranged-in .ensures) ∙ c .before .n .given .1)
+negative-requires c κs = small (with-hyphen (c .before)) (c .if3 .left)
 
 ranged-in-requires-2 : tie.Need-ranged-in-requires-2
 ranged-in-requires-2 c κs = search needs
 
-enum-known-n-2 : tie.Need-enum-known-n-2
-enum-known-n-2 c = search needs
-
-enum-told-2 : tie.Need-enum-told-2
-enum-told-2 c = search needs
-
 returns-3 : tie.Need-returns-3
-returns-3 c =
-    let a = c .before .before .before .before .before .before .before .args in
-    let t = slice (a .at) (a .end) (a .s .now) in
-    no-rate pos t (rangedIn 0 200_000 t) (above-zero (a .s .now) (a .at) (a .end) (omega arith) (omega arith) (c .before .before .before .if2 .left))
-    (sym (c .before .before .ranged-in2 .ensures) ∙ c .enum-told2 .given .1)
+returns-3 c = no-rate (no-hyphen (c .before)) (c .if4 .taken)
 
 positive-requires : tie.Need-positive-requires
-positive-requires c κs =
-    let a = c .before .before .before .before .before .before .before .before .args in
-    small 0 (slice (a .at) (a .end) (a .s .now)) (c .before .n2 .given .0 .0)
-    (sym (c .before .before .before .ranged-in2 .ensures) ∙ c .before .n2 .given .1)
+positive-requires c κs = small (no-hyphen (c .before)) (c .if4 .left)
 
 returns-4 : tie.Need-returns-4
-returns-4 c =
-    let a = c .before .before .before .before .before .before .before .before .before .args in
-    let t = slice (a .at) (a .end) (a .s .now) in
-    let o = rangedIn 1 200_000 (slice (a .at + 1) (a .end) (a .s .now)) in
-    let n = c .before .before .n .given .0 .0 in
-    let read : value o ≡ values.Is n = sym (c .before .before .before .before .ranged-in .ensures) ∙ c .before .before .n .given .1 in
-    let fits : natAbs (minus n) < 2 ^ 63 = rw size-neg (small 1 (slice (a .at + 1) (a .end) (a .s .now)) n read) in
-    is-rate minus t o (below-zero (a .s .now) (a .at) (a .end) (omega arith) (omega arith) (c .before .before .before .before .before .if2 .taken))
-    n read (read-back (minus n) (c .negative .ensures) fits)
+returns-4 c = is-rate (with-hyphen (c .before .before)) (c .before .if3 .left) (rw size-neg) (c .negative .ensures)
 
 returns-5 : tie.Need-returns-5
-returns-5 c =
-    let a = c .before .before .before .before .before .before .before .before .before .args in
-    let t = slice (a .at) (a .end) (a .s .now) in
-    let n = c .before .before .n2 .given .0 .0 in
-    let read : value (rangedIn 0 200_000 t) ≡ values.Is n =
-    sym (c .before .before .before .before .ranged-in2 .ensures) ∙ c .before .before .n2 .given .1 in
-    is-rate pos t (rangedIn 0 200_000 t)
-    (above-zero (a .s .now) (a .at) (a .end) (omega arith) (omega arith) (c .before .before .before .before .before .if2 .left))
-    n read (read-back (pos n) (c .positive .ensures) (small 0 t n read))
+returns-5 c = is-rate (no-hyphen (c .before .before)) (c .before .if4 .left) refl (c .positive .ensures)
 
 pub rate-in-spec : {M : Type 1} → statement M
 rate-in-spec =
@@ -163,13 +157,9 @@ rate-in-spec =
     shared-slice-read-if2
     add-ranged-in
     ranged-in-requires
-    enum-known-n
-    enum-told
     returns-2
     negative-requires
     ranged-in-requires-2
-    enum-known-n-2
-    enum-told-2
     returns-3
     positive-requires
     returns-4

@@ -10,16 +10,14 @@ use Rattle.paper.specs.Units.{Text}
 use Rattle.paper.specs.Refusals.{refused, accepted}
 use Rattle.paper.specs.Report.{reportOf}
 use Rattle.paper.proofs.Lengths.{report-fits}
-use Rattle.sheet.specs.Whole.{heldSheet}
-use Rattle.sheet.specs.declared.Sheet.{Sheet}
+use Rattle.tables.specs.Held.{heldTables}
+use Rattle.tables.specs.declared.Tables.{Tables}
 use Rattle.margin.specs.Figures.{TablesRanged, figuresOf}
 use Rattle.margin.specs.Held.{heldFigures}
-use Rattle.margin.specs.declared.Figures.{Figures}
 use Rattle.margin.proofs.Paper.{figures-held, tables-ranged}
 use Rattle.lines.specs.Written.{written}
 use Rattle.report.specs.Texts.{Writable, reportText}
-use Rattle.report.proofs.Paper.{text-held}
-use Rattle.report.proofs.PaperWritable.{accepted-long, writable-held}
+use Rattle.report.proofs.Paper.{text-held, writable-held}
 use Rattle.kit.proofs.Answers.{answered, short-buffer, long-sheet, by-lines, small, Accepted, is-accepted}
 use Rattle.kit.proofs.brm_margin.Statement.{statement}
 use Rattle.kit.proofs.brm_margin.Tie as tie
@@ -71,37 +69,33 @@ accepted-is c =
 
 figures-of-requires : tie.Need-figures-of-requires
 figures-of-requires c κs =
-    let a = accepted-is c in
-    subst⁻¹ TablesRanged (a .held) (tables-ranged (sheet (c .before .before)) (a .paper) (a .admitted) (a .tells))
+    let a = accepted-is (c .before) in
+    subst⁻¹ TablesRanged (a .held) (tables-ranged (a .paper) (a .admitted))
 
 -- The figures are the paper's
-figures-are : (c : tie.After-figures-of) → c .figures-of .result ≡ heldFigures (accepted-is (c .before) .paper)
+figures-are : (c : tie.After-figures-of) → c .figures-of .result ≡ heldFigures (accepted-is (c .before .before) .paper)
 figures-are c =
-    let a = accepted-is (c .before) in
-    c .figures-of .ensures ∙ ap figuresOf (a .held) ∙ figures-held (sheet (c .before .before .before)) (a .paper) (a .admitted) (a .tells)
+    let a = accepted-is (c .before .before) in
+    c .figures-of .ensures ∙ ap figuresOf (a .held) ∙ figures-held (a .paper) (a .admitted)
 
 -- ... and so is the report's text
-text-is : (c : tie.After-figures-of) → let r = c .before .before .before in
-    reportText (sheet r) (r .read-sheet .result) (c .figures-of .result) ≡ reportOf (accepted-is (c .before) .paper)
+text-is : (c : tie.After-figures-of) → reportText (c .before .before .before .before .read-sheet .result .tables) (c .figures-of .result) ≡ reportOf (accepted-is (c .before .before) .paper)
 text-is c =
-    let r = c .before .before .before in
-    let a = accepted-is (c .before) in
-    ap₂ (reportText (sheet r)) (a .held) (figures-are c) ∙ text-held (sheet r) (a .paper) (a .admitted) (a .tells)
+    let a = accepted-is (c .before .before) in
+    ap₂ reportText (a .held) (figures-are c) ∙ text-held (a .paper) (a .admitted)
 
 -- It can be written
-writable : (c : tie.After-figures-of) → let r = c .before .before .before in Writable (sheet r) (r .read-sheet .result) (c .figures-of .result)
+writable : (c : tie.After-figures-of) → Writable (c .before .before .before .before .read-sheet .result .tables) (c .figures-of .result)
 writable c =
-    let r = c .before .before .before in
-    let a = accepted-is (c .before) in
-    subst⁻¹ (λ (t : Sheet). Writable (sheet r) t (c .figures-of .result)) (a .held)
-    (subst⁻¹ (λ (f : Figures). Writable (sheet r) (heldSheet (sheet r) (accepted (a .paper))) f) (figures-are c)
-    (writable-held (sheet r) (a .paper) (a .admitted) (a .tells) (accepted-long (sheet r) (a .paper) (a .read))))
+    let a = accepted-is (c .before .before) in
+    subst⁻¹ (λ (t : Tables). Writable t (c .figures-of .result)) (a .held)
+    (subst⁻¹ (Writable (heldTables (a .paper))) (figures-are c) (writable-held (a .paper) (a .admitted)))
 
 write-requires : tie.Need-write-requires
 write-requires c κs =
     let f = c .before in
-    let a = accepted-is (f .before) in
-    let r = f .before .before .before in
+    let a = accepted-is (f .before .before) in
+    let r = f .before .before .before .before in
     let fits = report-fits (a .paper) (a .admitted) in
     (writable f, omega (arith, ap length (text-is f), fits, r .before .before .if1 .left))
 
@@ -112,8 +106,8 @@ returns-4 : tie.Need-returns-4
 returns-4 c =
     let w = c .before .before in
     let f = w .before .before in
-    let a = accepted-is (f .before) in
-    let r = f .before .before .before in
+    let a = accepted-is (f .before .before) in
+    let r = f .before .before .before .before in
     let b = buffer r in
     let report = reportOf (a .paper) in
     ap₂ (λ (n : ℕ) (after : Text). (n, after)) (w .write .ensures .0) (w .write .ensures .1)

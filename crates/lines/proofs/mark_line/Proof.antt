@@ -7,8 +7,7 @@ use mir.Syntax.{w64}
 use mir.ValLaws.{toZ-ofZ}
 use Rattle.paper.specs.Units.{Text, Fields}
 use Rattle.paper.specs.Text.{ascii, lineOf, digits, signedDigits}
-use Rattle.fields.specs.Places.{Place}
-use Rattle.lines.specs.Written.{currencyAt}
+use Rattle.lines.specs.Written.{Place, moneyText}
 use Rattle.lines.proofs.Written.{Left, all-left, field-fits, others-left}
 use Rattle.lines.proofs.mark_line.Statement.{statement}
 use Rattle.lines.proofs.mark_line.Tie as tie
@@ -16,14 +15,14 @@ use Rattle.lines.proofs.mark_line.Tie as tie
 -- The fields of the line, and what is left to write behind so many of them
 abbrev fields : tie.Start → Fields
 fields s =
-    ascii "M" ∷ digits (s .args .line) ∷ currencyAt (s .args .s .now) (s .args .currency) ∷ signedDigits (s .args .mark) ∷ []
+    ascii "M" ∷ digits (s .args .line) ∷ moneyText (s .args .money) ∷ signedDigits (s .args .mark) ∷ []
 
 abbrev Rest : tie.Start → ℕ → Place → Text → Type 0
 Rest s done = Left (lineOf (fields s)) (s .args .at) (s .args .report .now) (drop done (fields s))
 
 -- Where the function began, from behind each field but the last
 abbrev begin₁ : tie.After-put-two → tie.Start
-begin₁ c = c .before .before .before .before
+begin₁ c = c .before .before .before
 
 abbrev begin₂ : tie.After-put-field → tie.Start
 begin₂ c = begin₁ (c .before .before .before .before)

@@ -5,8 +5,7 @@ use borrow.Author.Needs.{needs}
 use lib.ListN.{drop}
 use Rattle.paper.specs.Units.{Text, Fields}
 use Rattle.paper.specs.Text.{ascii, lineOf, digits}
-use Rattle.fields.specs.Places.{Place}
-use Rattle.lines.specs.Written.{currencyAt}
+use Rattle.lines.specs.Written.{Place, moneyText}
 use Rattle.lines.proofs.Written.{Left, all-left, field-fits, others-left}
 use Rattle.lines.proofs.position_line.Statement.{statement}
 use Rattle.lines.proofs.position_line.Tie as tie
@@ -14,14 +13,14 @@ use Rattle.lines.proofs.position_line.Tie as tie
 -- The fields of the line, and what is left to write behind so many of them
 abbrev fields : tie.Start → Fields
 fields s =
-    ascii "K" ∷ currencyAt (s .args .s .now) (s .args .currency) ∷ digits (s .args .class) ∷ digits (s .args .long) ∷ digits (s .args .short) ∷ digits (s .args .margin) ∷ []
+    ascii "K" ∷ moneyText (s .args .money) ∷ digits (s .args .class) ∷ digits (s .args .long) ∷ digits (s .args .short) ∷ digits (s .args .margin) ∷ []
 
 abbrev Rest : tie.Start → ℕ → Place → Text → Type 0
 Rest s done = Left (lineOf (fields s)) (s .args .at) (s .args .report .now) (drop done (fields s))
 
 -- Where the function began, from behind each field but the last
 abbrev begin₁ : tie.After-put-two → tie.Start
-begin₁ c = c .before .before .before .before
+begin₁ c = c .before .before .before
 
 abbrev begin₂ : tie.After-put-currency → tie.Start
 begin₂ c = begin₁ (c .before .before .before .before)

@@ -2,7 +2,7 @@
 use Prim.Native.Nat.{_/_, _%_}
 use borrow.Author.Needs.{needs}
 use Rattle.lines.specs.Written.{four}
-use Rattle.lines.proofs.Written.{joined}
+use Rattle.lines.proofs.Written.{parts, joined}
 use Rattle.lines.proofs.put_eight.Statement.{statement}
 use Rattle.lines.proofs.put_eight.Tie as tie
 
@@ -20,7 +20,7 @@ returns c =
     let last = c .before .before in
     let myriads = last .before .before .before .before in
     let s = myriads .before .before .before in
-    joined (four (s .args .n / 10_000)) (four (s .args .n % 10_000)) (s .args .at) (s .args .report .now) (s .pre .1)
+    joined (parts (four (s .args .n / 10_000)) (four (s .args .n % 10_000))) _ _ (s .pre .1)
     (myriads .put-four .ensures)
     (last .put-four2 .ensures)
 

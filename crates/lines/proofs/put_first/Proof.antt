@@ -1,14 +1,20 @@
 -- `lines::put_first` meets its contract: a number below a hundred is one digit below ten, else two.
+use borrow.Author.Needs.{needs}
 use native.Mathlib.Omega.{arith}
 use mathlib.Core.Path.{ap}
-use borrow.Author.Needs.{needs}
 use lib.ListN.{length}
 use Rattle.lines.proofs.Digits.{digits-one, digits-two}
 use Rattle.lines.proofs.put_first.Statement.{statement}
 use Rattle.lines.proofs.put_first.Tie as tie
 
-put-digit-requires : tie.Need-put-digit-requires
-put-digit-requires c κs =
+add-put-byte : tie.Need-add-put-byte
+add-put-byte c = search needs
+
+cast-put-byte : tie.Need-cast-put-byte
+cast-put-byte c = search needs
+
+put-byte-requires : tie.Need-put-byte-requires
+put-byte-requires c κs =
     let s = c .before .before .before in
     omega (arith, ap length (digits-one (s .args .n) (c .before .if1 .taken)))
 
@@ -17,9 +23,9 @@ same-length c = search needs
 
 returns : tie.Need-returns
 returns c =
-    let digit = c .before .before in
-    let s = digit .before .before .before .before in
-    rw (digits-one (s .args .n) (digit .before .before .if1 .taken)) (digit .put-digit .ensures)
+    let byte = c .before .before in
+    let s = byte .before .before .before .before in
+    rw (digits-one (s .args .n) (byte .before .before .if1 .taken)) (byte .put-byte .ensures)
 
 put-pair-requires : tie.Need-put-pair-requires
 put-pair-requires c κs =
@@ -37,4 +43,13 @@ returns-2 c =
 
 pub put-first-spec : {M : Type 1} → statement M
 put-first-spec =
-    tie.close (tie.spec put-digit-requires same-length returns put-pair-requires same-length-2 returns-2)
+    tie.close
+    (tie.spec
+    add-put-byte
+    cast-put-byte
+    put-byte-requires
+    same-length
+    returns
+    put-pair-requires
+    same-length-2
+    returns-2)

@@ -2,7 +2,7 @@
 use Prim.Native.Nat.{_/_, _%_}
 use borrow.Author.Needs.{needs}
 use Rattle.lines.specs.Written.{pair}
-use Rattle.lines.proofs.Written.{joined}
+use Rattle.lines.proofs.Written.{parts, joined}
 use Rattle.lines.proofs.put_four.Statement.{statement}
 use Rattle.lines.proofs.put_four.Tie as tie
 
@@ -20,7 +20,7 @@ returns c =
     let ones = c .before .before in
     let hundreds = ones .before .before .before .before in
     let s = hundreds .before .before .before in
-    joined (pair (s .args .n / 100)) (pair (s .args .n % 100)) (s .args .at) (s .args .report .now) (s .pre .1)
+    joined (parts (pair (s .args .n / 100)) (pair (s .args .n % 100))) _ _ (s .pre .1)
     (hundreds .put-pair .ensures)
     (ones .put-pair2 .ensures)
 

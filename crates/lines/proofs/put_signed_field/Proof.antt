@@ -1,45 +1,40 @@
 -- `lines::put_signed_field` meets its contract: the sign's test tells whether `-` stands before the size.
-use Prim.Native.Nat.{_+_, _≤_}
+use borrow.Author.Needs.{needs}
 use native.Mathlib.Omega.{arith}
 use mathlib.Core.List.{[], _∷_, _++_}
 use mathlib.Core.Path.{_≡_, refl}
-use borrow.Author.Needs.{needs}
-use lib.ListN.{length}
 use mir.Syntax.{w64}
 use mir.ValLaws.{toZ-ofZ}
 use Rattle.paper.specs.Signs.{aboveZero, belowZero}
 use Rattle.paper.specs.Text.{hyphen, digits, signedDigits}
 use Rattle.whole.proofs.Signs.{below, not-below, test-on}
-use Rattle.lines.proofs.Written.{room, joined}
+use Rattle.lines.proofs.Written.{Parts, parts, front, room, joined}
 use Rattle.lines.proofs.put_signed_field.Statement.{statement}
 use Rattle.lines.proofs.put_signed_field.Tie as tie
 
 -- A number below zero is `-` and its size
-spelt-below : (c : tie.After-below-zero) → signedDigits (c .before .before .before .args .z) ≡ hyphen ∷ digits (c .below-zero .result)
+spelt-below : (c : tie.After-below-zero) → let a = c .before .before .before .args in
+    Parts (signedDigits (a .z) ++ (a .end ∷ [])) (hyphen ∷ []) (digits (c .below-zero .result) ++ (a .end ∷ []))
 spelt-below c =
     let s = c .before .before .before in
     rw (c .below-zero .ensures, toZ-ofZ w64 (s .args .z) (s .fits .z))
-    (below (λ z. signedDigits z ≡ hyphen ∷ digits (belowZero z)) (s .args .z) (test-on (s .args .z) (s .fits .z) (c .before .if1 .taken))
-    (λ n. refl))
-
--- `-` and the size fit
-both-fit : (c : tie.After-below-zero) → (let s = c .before .before .before in
-    s .args .at + length (hyphen ∷ digits (c .below-zero .result) ++ (s .args .end ∷ [])) ≤ length (s .args .report .now))
-both-fit c = rw (spelt-below c) at (c .before .before .before .pre .1)
+    (below (λ z. Parts (signedDigits z ++ (s .args .end ∷ [])) (hyphen ∷ []) (digits (belowZero z) ++ (s .args .end ∷ []))) (s .args .z)
+    (test-on (s .args .z) (s .fits .z) (c .before .if1 .taken))
+    (λ n. parts (hyphen ∷ []) _))
 
 below-zero-requires : tie.Need-below-zero-requires
 below-zero-requires c κs = search needs
 
 put-byte-requires : tie.Need-put-byte-requires
-put-byte-requires c κs = omega (arith, both-fit (c .before))
+put-byte-requires c κs =
+    let s = c .before .before .before .before in
+    omega (arith, front (spelt-below (c .before)) (s .args .at) (s .args .report .now) (s .pre .1))
 
 put-field-requires : tie.Need-put-field-requires
 put-field-requires c κs =
     let sign = c .before .before .before in
     let size = sign .before .before in
-    let s = size .before .before .before in
-    room (hyphen ∷ []) (digits (size .below-zero .result) ++ (s .args .end ∷ [])) (s .args .at) (s .args .report .now) (both-fit size)
-    (sign .put-byte .ensures)
+    room (spelt-below size) _ _ (size .before .before .before .pre .1) (sign .put-byte .ensures)
 
 same-length : tie.Need-same-length
 same-length c = search needs
@@ -49,11 +44,7 @@ returns c =
     let field = c .before .before in
     let sign = field .before .before .before .before in
     let size = sign .before .before in
-    let s = size .before .before .before in
-    rw (spelt-below size)
-    (joined (hyphen ∷ []) (digits (size .below-zero .result) ++ (s .args .end ∷ [])) (s .args .at) (s .args .report .now) (both-fit size)
-    (sign .put-byte .ensures)
-    (field .put-field .ensures))
+    joined (spelt-below size) _ _ (size .before .before .before .pre .1) (sign .put-byte .ensures) (field .put-field .ensures)
 
 -- Any other is its size
 spelt-above : (c : tie.After-above-zero) → signedDigits (c .before .before .before .before .args .z) ≡ digits (c .above-zero .result)

@@ -5,7 +5,7 @@ use borrow.Author.Needs.{needs}
 use lib.ListN.{drop}
 use Rattle.paper.specs.Units.{Text, Fields}
 use Rattle.paper.specs.Text.{ascii, lineOf, digits}
-use Rattle.fields.specs.Places.{Place}
+use Rattle.lines.specs.Written.{Place}
 use Rattle.lines.proofs.Written.{Left, all-left, field-fits, others-left}
 use Rattle.lines.proofs.refusal_line.Statement.{statement}
 use Rattle.lines.proofs.refusal_line.Tie as tie

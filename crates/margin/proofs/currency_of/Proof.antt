@@ -10,9 +10,9 @@ use lib.ListN.{length, length-take}
 use mir.Syntax.{w64}
 use mir.ValLaws.{toZ-ofZ}
 use Rattle.paper.specs.Offsetting.{Book, offsetAll, total}
+use Rattle.paper.specs.Bounds.{mostInitial, mostMarkSum, BookFacts}
 use Rattle.paper.proofs.Lists.{each-map}
-use Rattle.paper.proofs.Bounds.{mostInitial, mostMarkSum}
-use Rattle.paper.proofs.Totals.{BookFacts, remaining-most, margin-on-most, margins-most}
+use Rattle.paper.proofs.Totals.{remaining-most, margin-on-most, margins-most}
 use Rattle.offsetting.specs.Books.{bookOf, rowOf}
 use Rattle.margin.specs.Figures.{classRows, priorityRows, marginIn, marginsOf}
 use Rattle.margin.specs.declared.Margins.{Margins}

@@ -1,12 +1,11 @@
 -- `margin::margin_of` meets its contract: the larger side is within the table of bounds.
 use Prim.Native.Nat.{_≤_}
 use native.Mathlib.Nat.{max-le}
-use native.Mathlib.Omega.{arith}
-use mathlib.Core.Path.{_≡_, ap, _∙_, subst⁻¹}
+use mathlib.Core.Path.{ap, _∙_, subst⁻¹}
 use borrow.Author.Needs.{needs}
 use Rattle.paper.specs.Units.{Whole}
 use Rattle.paper.specs.Offsetting.{share}
-use Rattle.paper.proofs.Bounds.{mostPosition}
+use Rattle.paper.specs.Bounds.{mostPosition}
 use Rattle.margin.proofs.margin_of.Statement.{statement}
 use Rattle.margin.proofs.margin_of.Tie as tie
 

@@ -9,15 +9,14 @@ use lib.ListN.{length, drop, length-map, length-drop}
 use lib.Seq.{length-take-le}
 use Rattle.paper.specs.Units.{Whole}
 use Rattle.paper.specs.Lists.{sum}
+use Rattle.paper.specs.Bounds.{mostInitial}
 use Rattle.paper.proofs.Lists.{each-map}
-use Rattle.paper.proofs.Bounds.{mostInitial}
 use Rattle.paper.proofs.Totals.{margin-on-most, margins-most}
-use Rattle.rows.specs.declared.ClassRow.{ClassRow}
-use Rattle.sections.specs.Tables.{noClass}
-use Rattle.sections.specs.declared.Classes.{Classes}
+use Rattle.tables.specs.declared.ClassRow.{ClassRow}
+use Rattle.tables.specs.Held.{noClass}
+use Rattle.tables.specs.declared.Classes.{Classes}
 use Rattle.offsetting.specs.Books.{bookOf}
 use Rattle.margin.specs.Figures.{marginIn, classRows}
-use Rattle.margin.specs.declared.Margins.{Margins}
 use Rattle.margin.proofs.Backwards.{each-drop, drop-all, rows-before, each-before, filledFrom, made-none, made-more, made-all}
 use Rattle.margin.proofs.margins_of.Statement.{statement}
 use Rattle.margin.proofs.margins_of.Tie as tie
@@ -36,7 +35,7 @@ abbrev μ-loop : tie.MeasureT-loop
 
 -- The table has forty places, room for its rows
 forty : (c : tie.Start Inv-loop μ-loop) → length (c .args .t1 .rows) ≡ 40
-forty c = sym (length-map (c .args .t1 .rows) _) ∙ c .good .0 .1 .1 .1 .1 .0 .1 .0 .1
+forty c = sym (length-map (c .args .t1 .rows) _) ∙ c .good .0 .1 .1 .1 .0 .1 .0 .1
 
 rows-fit : (c : tie.Start Inv-loop μ-loop) → c .args .t1 .count ≤ length (c .args .t1 .rows)
 rows-fit c = omega (arith, forty c, c .pre .0)

@@ -8,10 +8,11 @@ use mathlib.Core.Path.{_≡_, refl, sym, ap, _∙_, subst, subst⁻¹}
 use lib.ListN.{length, getD, take}
 use lib.Seq.{length-take-le, getD-take}
 use Rattle.paper.specs.Offsetting.{offsetRow, offsetAll}
+use Rattle.paper.specs.Bounds.{PriorityFacts, BookFacts}
 use Rattle.paper.proofs.Lists.{each-at}
-use Rattle.paper.proofs.Rules.{PriorityFacts}
-use Rattle.paper.proofs.Totals.{BookFacts, remaining-most}
-use Rattle.rows.specs.declared.PriorityRow.{PriorityRow}
+use Rattle.paper.proofs.Totals.{remaining-most}
+use Rattle.tables.specs.Held.{noPriority}
+use Rattle.tables.specs.declared.PriorityRow.{PriorityRow}
 use Rattle.offsetting.specs.Books.{bookOf, rowOf}
 use Rattle.offsetting.proofs.Rows.{row-more}
 use Rattle.offsetting.proofs.offset_all.Statement.{statement}
@@ -28,16 +29,12 @@ abbrev μ-loop : tie.MeasureT-loop
 rows-size : (c : tie.Start Inv-loop μ-loop) → length (c .args .t1) ≡ 200
 rows-size c = c .good .0 .1 .0 .1
 
--- What stands where there is no row
-abbrev noRow : PriorityRow
-noRow = record { first = 0; second = 0; factor = 0 }
-
 -- Each row up to the count is within its ranges
-row-facts : (s : tie.Start Inv-loop μ-loop) (i : ℕ) → i < s .args .count → PriorityFacts (rowOf (getD (s .args .t1) i noRow))
+row-facts : (s : tie.Start Inv-loop μ-loop) (i : ℕ) → i < s .args .count → PriorityFacts (rowOf (getD (s .args .t1) i noPriority))
 row-facts s i h =
     let rows = s .args .t1 in
-    subst (λ (r : PriorityRow). PriorityFacts (rowOf r)) (getD-take (s .args .count) rows i noRow h)
-    (each-at i noRow (s .pre .1) (omega (arith, length-take-le (s .args .count) rows (omega (arith, rows-size s, s .pre .0)))))
+    subst (λ (r : PriorityRow). PriorityFacts (rowOf r)) (getD-take (s .args .count) rows i noPriority h)
+    (each-at i noPriority (s .pre .1) (omega (arith, length-take-le (s .args .count) rows (omega (arith, rows-size s, s .pre .0)))))
 
 loop-holds : tie.Need-loop-holds Inv-loop μ-loop
 unfolding offsetAll
@@ -73,8 +70,8 @@ loop-again c =
     let book = bookOf (s .args .long .now) (s .args .short .now) in (
       omega arith,
       c .offset-row .ensures
-          ∙ ap (offsetRow (rowOf (getD (s .args .t1) i noRow))) (l .loop .inv .1)
-          ∙ row-more (s .args .t1) i noRow book (omega (arith, rows-size s))
+          ∙ ap (offsetRow (rowOf (getD (s .args .t1) i noPriority))) (l .loop .inv .1)
+          ∙ row-more (s .args .t1) i noPriority book (omega (arith, rows-size s))
           ∙ ap (λ (n : ℕ). offsetAll (map rowOf (take n (s .args .t1))) book) (sym (add-one i)),
     )
 

@@ -4,8 +4,8 @@ use borrow.Author.Tests.{eq-eqb, ne-eqb}
 use mathlib.Core.Path.{sym, ap, _∙_, subst⁻¹}
 use Rattle.paper.specs.Units.{Class}
 use Rattle.paper.specs.Offsetting.{offset}
+use Rattle.paper.specs.Bounds.{BookFacts}
 use Rattle.paper.proofs.Offsetting.{row-one, row-two}
-use Rattle.paper.proofs.Totals.{BookFacts}
 use Rattle.offsetting.specs.Books.{bookOf, rowOf}
 use Rattle.offsetting.proofs.Rows.{offset-most}
 use Rattle.offsetting.proofs.offset_row.Statement.{statement}

@@ -3,46 +3,44 @@
 use Prim.Native.Nat.{ℕ, _+_, _-_, _≤_, _<_}
 use native.Mathlib.Omega.{arith}
 use mathlib.Core.List.{List}
-use mathlib.Core.Path.{_≡_}
+use mathlib.Core.Path.{_≡_, refl}
 use lib.IntN.{pos}
 use lib.ListN.{length, getD}
 use mir.Syntax.{w64}
 use mir.Val.{toZ, ofZ}
 use Rattle.paper.specs.Units.{Text, Line, SignedCents}
-use Rattle.fields.specs.Places.{Place}
-use Rattle.securities.specs.Tables.{noSecurity}
-use Rattle.securities.specs.declared.Security.{Security}
-use Rattle.trades.specs.Tables.{noTrade}
-use Rattle.trades.specs.declared.Trade.{Trade}
-use Rattle.trades.specs.declared.Trades.{Trades}
-use Rattle.lines.specs.Written.{Wrote, currencyAt}
+use Rattle.whole.proofs.Signs.{read-back}
+use Rattle.tables.specs.Held.{noSecurity, noTrade}
+use Rattle.tables.specs.declared.Security.{Security}
+use Rattle.tables.specs.declared.Trade.{Trade}
+use Rattle.tables.specs.declared.Trades.{Trades}
+use Rattle.lines.specs.Written.{Wrote}
 use Rattle.report.specs.Texts.{marked, markText}
-use Rattle.report.proofs.Held.{read-back}
 use Rattle.report.proofs.Loops.{as-long, none-written, texts, turn-room, turn}
 use Rattle.report.proofs.mark_lines.Statement.{statement}
 use Rattle.report.proofs.mark_lines.Tie as tie
 
 -- The text of the trade at a place, by the tables that the locals hold; marks in cents
-abbrev textAt : Text → Trades → List Place → List Security → List SignedCents → Line → ℕ → Text
-textAt s trades places rows marks first i =
+abbrev textAt : Trades → List ℕ → List Security → List SignedCents → Line → ℕ → Text
+textAt trades numbers rows marks first i =
     let trade = getD (trades .rows) i noTrade in
     let security = getD rows (trade .security) noSecurity in
-    marked (trade .margined) (first + i) (currencyAt s (getD places (security .currency) 0)) (getD marks i (pos 0))
+    marked (trade .margined) (first + i) (getD numbers (security .currency) 0) (getD marks i (pos 0))
 
 abbrev Inv-loop : tie.InvT-loop
-Inv-loop report₀ s trades places rows marks first at₀ i₀ report at i =
-    (i ≤ trades .count) × Wrote (texts (textAt s trades places rows marks first) i) 0 report₀ at report
+Inv-loop report₀ trades numbers rows marks first at₀ i₀ report at i =
+    (i ≤ trades .count) × Wrote (texts (textAt trades numbers rows marks first) i) 0 report₀ at report
 
 abbrev μ-loop : tie.MeasureT-loop
-μ-loop report₀ s trades places rows marks first at₀ i₀ report at i = trades .count - i
+μ-loop report₀ trades numbers rows marks first at₀ i₀ report at i = trades .count - i
 
 -- Where the function began, from the loop
 abbrev begin : tie.At-loop Inv-loop μ-loop → tie.Start Inv-loop μ-loop
-begin l = l .before .before .before .before .before .before .before .before .before .before .before
+begin l = l .before .before .before .before .before .before .before .before .before .before
 
 -- The text of each trade, and how many they are, by the arguments
 abbrev text : tie.Start Inv-loop μ-loop → ℕ → Text
-text s = markText (s .args .s .now) (s .args .tables) (s .args .figures)
+text s = markText (s .args .tables) (s .args .figures)
 
 abbrev many : tie.Start Inv-loop μ-loop → ℕ
 many s = s .args .tables .trades .count
@@ -65,24 +63,24 @@ currency-placed l = begin l .pre .0 .currency (trade l .security)
 -- ... and the mark that a local holds of it is the one in the table
 mark-is : (l : tie.At-loop Inv-loop μ-loop) → let mark = getD (begin l .args .figures .marks) (l .loop .i) (pos 0) in
     toZ w64 (ofZ w64 mark) ≡ mark
-mark-is l = read-back (getD (begin l .args .figures .marks) (l .loop .i) (pos 0)) (begin l .pre .0 .mark (l .loop .i))
+mark-is l = read-back _ refl (begin l .pre .0 .mark (l .loop .i))
 
 add-first : tie.Need-add-first Inv-loop μ-loop
-add-first c = omega (arith, c .before .before .before .before .before .before .before .before .pre .0 .classes .few)
+add-first c = omega (arith, c .before .before .before .before .before .before .before .pre .0 .classes .few)
 
 add-first-2 : tie.Need-add-first-2 Inv-loop μ-loop
 add-first-2 c =
-    let t = c .before .before .before .before .before .before .before .before .before .pre .0 in
+    let t = c .before .before .before .before .before .before .before .before .pre .0 in
     omega (arith, t .classes .few, t .few-priorities)
 
 add-first-3 : tie.Need-add-first-3 Inv-loop μ-loop
 add-first-3 c =
-    let t = c .before .before .before .before .before .before .before .before .before .before .pre .0 in
+    let t = c .before .before .before .before .before .before .before .before .before .pre .0 in
     omega (arith, t .classes .few, t .few-priorities, t .few-securities)
 
 loop-holds : tie.Need-loop-holds Inv-loop μ-loop
 loop-holds c =
-    let a = c .before .before .before .before .before .before .before .before .before .before .args in
+    let a = c .before .before .before .before .before .before .before .before .before .args in
     (omega arith, none-written 0 (a .report .now))
 
 mul-trade : tie.Need-mul-trade Inv-loop μ-loop
@@ -91,40 +89,46 @@ mul-trade c = omega (arith, begin (c .before) .pre .0 .few-trades)
 element-copy-out-trade : tie.Need-element-copy-out-trade Inv-loop μ-loop
 element-copy-out-trade c = omega (arith, begin (c .before) .pre .0 .few-trades)
 
+cast-place : tie.Need-cast-place Inv-loop μ-loop
+cast-place c = record { fits = omega (arith, security-placed (c .before .before .before)) }
+
 mul-security : tie.Need-mul-security Inv-loop μ-loop
-mul-security c = omega (arith, security-placed (c .before .before))
+mul-security c = record { fits = omega (arith, security-placed (c .before .before .before)) }
 
 array-copy-out-security : tie.Need-array-copy-out-security Inv-loop μ-loop
-array-copy-out-security c = security-placed (c .before .before)
+array-copy-out-security c = security-placed (c .before .before .before)
+
+cast-rank : tie.Need-cast-rank Inv-loop μ-loop
+cast-rank c = record { fits = omega (arith, currency-placed (c .before .before .before .before .before)) }
 
 mul-put-mark : tie.Need-mul-put-mark Inv-loop μ-loop
-mul-put-mark c = omega (arith, currency-placed (c .before .before .before .before))
+mul-put-mark c = record { fits = omega (arith, currency-placed (c .before .before .before .before .before .before)) }
 
 array-read-put-mark : tie.Need-array-read-put-mark Inv-loop μ-loop
-array-read-put-mark c = currency-placed (c .before .before .before .before)
+array-read-put-mark c = currency-placed (c .before .before .before .before .before .before)
 
 add-put-mark : tie.Need-add-put-mark Inv-loop μ-loop
 add-put-mark c =
-    let t = begin (c .before .before .before .before) .pre .0 in
+    let t = begin (c .before .before .before .before .before .before) .pre .0 in
     omega (arith, t .classes .few, t .few-priorities, t .few-securities, t .few-trades)
 
 mul-put-mark-2 : tie.Need-mul-put-mark-2 Inv-loop μ-loop
-mul-put-mark-2 c = omega (arith, begin (c .before .before .before .before) .pre .0 .few-trades)
+mul-put-mark-2 c = omega (arith, begin (c .before .before .before .before .before .before) .pre .0 .few-trades)
 
 array-copy-out-put-mark : tie.Need-array-copy-out-put-mark Inv-loop μ-loop
-array-copy-out-put-mark c = omega (arith, begin (c .before .before .before .before) .pre .0 .few-trades)
+array-copy-out-put-mark c = omega (arith, begin (c .before .before .before .before .before .before) .pre .0 .few-trades)
 
 put-mark-requires : tie.Need-put-mark-requires Inv-loop μ-loop
 put-mark-requires c κs =
-    let l = c .before .before .before .before .before in
+    let l = c .before .before .before .before .before .before .before in
     let s = begin l in
     rw (mark-is l) (
-      (s .pre .0 .mark (l .loop .i), s .pre .0 .money (getD (s .args .tables .securities .rows) (trade l .security) noSecurity .currency) (currency-placed l)),
-      turn-room (text s) (many s) 0 (s .args .report .now) (all-fit s) (l .loop .i) (c .before .before .before .before .loop-test .taken) (l .loop .inv .1),
+      (s .pre .0 .mark (l .loop .i), s .pre .0 .money (getD (s .args .tables .securities .rows) (trade l .security) noSecurity .currency)),
+      turn-room (text s) (many s) 0 (s .args .report .now) (all-fit s) (l .loop .i) (c .before .before .before .before .before .before .loop-test .taken) (l .loop .inv .1),
     )
 
 add-i : tie.Need-add-i Inv-loop μ-loop
-add-i c = omega (arith, begin (c .before .before .before .before .before .before .before .before) .pre .0 .few-trades)
+add-i c = omega (arith, begin (c .before .before .before .before .before .before .before .before .before .before) .pre .0 .few-trades)
 
 loop-less : tie.Need-loop-less Inv-loop μ-loop
 loop-less c = omega arith
@@ -132,12 +136,11 @@ loop-less c = omega arith
 loop-again : tie.Need-loop-again Inv-loop μ-loop
 loop-again c =
     let put = c .before .before in
-    let more = put .before .before .before .before .before .loop-test .taken in
-    let l = put .before .before .before .before .before .before in
+    let more = put .before .before .before .before .before .before .before .loop-test .taken in
+    let l = put .before .before .before .before .before .before .before .before in
     let s = begin l in (
       omega (arith, more),
-      turn (text s) (many s) 0 (s .args .report .now) (all-fit s) (l .loop .i) more (l .loop .inv .1)
-          (rw (mark-is l) at (put .put-mark .ensures)),
+      turn (text s) (many s) 0 (s .args .report .now) (all-fit s) (l .loop .i) more (l .loop .inv .1) (rw (mark-is l) at (put .put-mark .ensures)),
     )
 
 -- At the end the texts of all trades are written
@@ -168,8 +171,10 @@ mark-lines-spec =
     loop-holds
     mul-trade
     element-copy-out-trade
+    cast-place
     mul-security
     array-copy-out-security
+    cast-rank
     mul-put-mark
     array-read-put-mark
     add-put-mark

@@ -6,71 +6,70 @@ use mathlib.Core.List.{List}
 use mathlib.Core.Path.{_≡_}
 use lib.ListN.{getD}
 use Rattle.paper.specs.Units.{Text, Whole}
-use Rattle.fields.specs.Places.{Place}
-use Rattle.sections.specs.Tables.{noClass}
-use Rattle.sections.specs.declared.Classes.{Classes}
-use Rattle.lines.specs.Written.{Wrote, currencyAt, positionLine}
+use Rattle.tables.specs.Held.{noClass}
+use Rattle.tables.specs.declared.Classes.{Classes}
+use Rattle.lines.specs.Written.{Wrote, moneyText, positionLine}
 use Rattle.report.specs.Texts.{positionText}
 use Rattle.report.proofs.Loops.{as-long, none-written, texts, turn-room, turn}
 use Rattle.report.proofs.position_lines.Statement.{statement}
 use Rattle.report.proofs.position_lines.Tie as tie
 
 -- The K line of the class at a place, by the columns that the locals hold: whole units
-abbrev textAt : Text → Place → Classes → List Whole → List Whole → List Whole → ℕ → Text
-textAt s currency classes long short margins i =
+abbrev textAt : ℕ → Classes → List Whole → List Whole → List Whole → ℕ → Text
+textAt money classes long short margins i =
     let class = getD (classes .rows) i noClass .class in
-    positionLine (currencyAt s currency) class (getD long class 0) (getD short class 0) (getD margins i 0)
+    positionLine (moneyText money) class (getD long class 0) (getD short class 0) (getD margins i 0)
 
 abbrev Inv-loop : tie.InvT-loop
-Inv-loop report₀ from s currency classes rows long short margins at₀ i₀ report at i =
-    (i ≤ classes .count) × Wrote (texts (textAt s currency classes long short margins) i) from report₀ at report
+Inv-loop report₀ from money classes rows long short margins at₀ i₀ report at i =
+    (i ≤ classes .count) × Wrote (texts (textAt money classes long short margins) i) from report₀ at report
 
 abbrev μ-loop : tie.MeasureT-loop
-μ-loop report₀ from s currency classes rows long short margins at₀ i₀ report at i = classes .count - i
+μ-loop report₀ from money classes rows long short margins at₀ i₀ report at i = classes .count - i
 
 -- Where the function began, from the loop
 abbrev begin : tie.At-loop Inv-loop μ-loop → tie.Start Inv-loop μ-loop
-begin l = l .before .before .before .before .before .before .before
+begin l = l .before .before .before .before .before .before
 
 -- The K line of each class, and how many they are, by the arguments
 abbrev text : tie.Start Inv-loop μ-loop → ℕ → Text
-text s = positionText (currencyAt (s .args .s .now) (s .args .currency)) (s .args .classes) (s .args .figures)
+text s = positionText (s .args .money) (s .args .classes) (s .args .figures)
 
 abbrev many : tie.Start Inv-loop μ-loop → ℕ
 many s = s .args .classes .count
 
--- The class of a row is at most 40
-class-most : (s : tie.Start Inv-loop μ-loop) (i : ℕ) → getD (s .args .classes .rows) i noClass .class ≤ 40
-class-most s i = s .pre .0 .1 .class i
+-- The class of the row of a turn is at most 40, and the rows too
+class-most : (l : tie.At-loop Inv-loop μ-loop) → (getD (begin l .args .classes .rows) (l .loop .i) noClass .class ≤ 40) × (begin l .args .classes .count ≤ 40)
+class-most l = (begin l .pre .0 .1 .class (l .loop .i), begin l .pre .0 .1 .few)
 
 loop-holds : tie.Need-loop-holds Inv-loop μ-loop
 loop-holds c =
-    let a = c .before .before .before .before .before .before .args in
+    let a = c .before .before .before .before .before .args in
     (omega arith, none-written (a .from) (a .report .now))
 
 mul-row : tie.Need-mul-row Inv-loop μ-loop
-mul-row c = omega (arith, begin (c .before .before) .pre .0 .1 .few)
+mul-row c = omega (arith, class-most (c .before .before))
 
 array-copy-out-row : tie.Need-array-copy-out-row Inv-loop μ-loop
-array-copy-out-row c = omega (arith, begin (c .before .before) .pre .0 .1 .few)
+array-copy-out-row c = omega (arith, class-most (c .before .before))
 
 mul-position-line : tie.Need-mul-position-line Inv-loop μ-loop
-mul-position-line c = let l = c .before .before .before .before in omega (arith, class-most (begin l) (l .loop .i))
+mul-position-line c = omega (arith, class-most (c .before .before .before .before))
 
 array-read-position-line : tie.Need-array-read-position-line Inv-loop μ-loop
-array-read-position-line c = let l = c .before .before .before .before in omega (arith, class-most (begin l) (l .loop .i))
+array-read-position-line c = omega (arith, class-most (c .before .before .before .before))
 
 mul-position-line-2 : tie.Need-mul-position-line-2 Inv-loop μ-loop
-mul-position-line-2 c = let l = c .before .before .before .before in omega (arith, class-most (begin l) (l .loop .i))
+mul-position-line-2 c = omega (arith, class-most (c .before .before .before .before))
 
 array-read-position-line-2 : tie.Need-array-read-position-line-2 Inv-loop μ-loop
-array-read-position-line-2 c = let l = c .before .before .before .before in omega (arith, class-most (begin l) (l .loop .i))
+array-read-position-line-2 c = omega (arith, class-most (c .before .before .before .before))
 
 mul-position-line-3 : tie.Need-mul-position-line-3 Inv-loop μ-loop
-mul-position-line-3 c = omega (arith, begin (c .before .before .before .before) .pre .0 .1 .few)
+mul-position-line-3 c = omega (arith, class-most (c .before .before .before .before))
 
 array-read-position-line-3 : tie.Need-array-read-position-line-3 Inv-loop μ-loop
-array-read-position-line-3 c = omega (arith, begin (c .before .before .before .before) .pre .0 .1 .few)
+array-read-position-line-3 c = omega (arith, class-most (c .before .before .before .before))
 
 position-line-requires : tie.Need-position-line-requires Inv-loop μ-loop
 position-line-requires c κs =
@@ -79,7 +78,7 @@ position-line-requires c κs =
     (s .pre .0 .0, turn-room (text s) (many s) (s .args .from) (s .args .report .now) (s .pre .1) (l .loop .i) (c .before .before .if1 .taken) (l .loop .inv .1))
 
 add-i : tie.Need-add-i Inv-loop μ-loop
-add-i c = omega (arith, begin (c .before .before .before .before .before .before .before) .pre .0 .1 .few)
+add-i c = omega (arith, class-most (c .before .before .before .before .before .before .before))
 
 loop-less : tie.Need-loop-less Inv-loop μ-loop
 loop-less c = omega arith

@@ -1,222 +1,228 @@
--- `securities::security_section` meets its contract. The loop's invariant: the tables fit, and for classes as the code knows them they
--- hold the rows above. The measure is the bytes left up to `end`.
-use Prim.Native.Nat.{ℕ, _-_, _≤_, _<_}
+-- `securities::security_section` meets its contract. The loop's invariant: the tables have the rows above, and the section goes on
+-- from `at` with what they tell. The measure is the bytes left up to `end`.
+use Prim.Native.Nat.{ℕ, _-_, _<_}
 use native.Mathlib.Omega.{arith}
-use mathlib.Core.Bool.{true, false}
-use mathlib.Core.List.{List, [], _∷_}
-use mathlib.Core.Path.{_≡_, sym, ap, ap₂, _∙_, subst}
+use mathlib.Core.List.{[]}
+use mathlib.Core.Logic.{⊎-elim}
+use mathlib.Core.Path.{_≡_, sym, ap, ap₂, _∙_}
 use borrow.Author.Needs.{needs}
-use borrow.Author.Tests.{ltb-true}
-use lib.Dec.{ltb}
-use lib.ListN.{take, replicate}
-use Rattle.paper.specs.Rows.{ClassRow}
+use borrow.Author.Tests.{not-true, not-false}
+use lib.ListN.{take}
+use Rattle.tables.specs.Back.{paperClasses}
 use Rattle.paper.specs.Refusals.{refused}
-use Rattle.paper.specs.Sheet.{begins}
-use Rattle.paper.proofs.Lists.{both}
 use Rattle.fields.specs.Places.{Place, endedLength}
-use Rattle.fields.proofs.Places.{line-there}
-use Rattle.rows.specs.Fields.{fieldsAt}
-use Rattle.rows.specs.Sections.{goesOn}
-use Rattle.securities.specs.Tables.{Bordered, noMoney, foundNumber}
-use Rattle.securities.specs.declared.Security.{Security}
-use Rattle.securities.proofs.Facts.{Taken, security-taken}
-use Rattle.securities.proofs.Turns.{Plain, plain-start, plain-more, turn-room, turn-currency, turn-known, Held, held-start, held-turn, wholeOf, held-refused, ended-held, ended-findable, refused-held, refused-findable}
+use Rattle.sections.specs.Sections.{goesOn}
+use Rattle.sections.proofs.Loops.{goes-before}
+use Rattle.securities.specs.Read.{securityNumber}
+use Rattle.securities.specs.Classes.{classIn}
+use Rattle.securities.specs.declared.Columns.{Columns}
+use Rattle.securities.specs.declared.Standing.{Standing}
+use Rattle.securities.specs.Section.{brokenOf, securitySection}
+use Rattle.securities.proofs.Turns.{Turn, turn-start, standingIn, classFor, turn-refused, Read, turn-row, turn-small, turn-class, turn-broken, turn-free, turn-room, turn-known, turn-new, turn-more, turn-most, turn-ended}
 use Rattle.securities.proofs.security_section.Statement.{statement}
 use Rattle.securities.proofs.security_section.Tie as tie
+use Rattle.securities.proofs.security_section.Reads as reads
+use Rattle.securities.proofs.security_section.Lts as lts
 
 abbrev Inv-loop : tie.InvT-loop
-Inv-loop s years from end kinds borders numbers classes rows₀ codes₀ currencies₀ count₀ at₀ rows codes currencies count at =
-    Plain s rows codes currencies count at
-    × ((cs : List ClassRow) → Bordered (take classes kinds) (take classes borders) (take classes numbers) cs → Held s cs from rows codes currencies count at)
+Inv-loop s years from end classes kinds borders numbers rows₀ codes₀ money₀ currencies₀ last₀ count₀ at₀ rows codes money currencies last count at =
+    Turn (paperClasses classes) s from rows codes money currencies last count at
 
 abbrev μ-loop : tie.MeasureT-loop
-μ-loop s years from end kinds borders numbers classes rows₀ codes₀ currencies₀ count₀ at₀ rows codes currencies count at =
+μ-loop s years from end classes kinds borders numbers rows₀ codes₀ money₀ currencies₀ last₀ count₀ at₀ rows codes money currencies last count at =
     end - at
 
--- A turn: the line is the section's
-line-taken : (t : tie.Then1 Inv-loop μ-loop) → let l = t .before .before in let b = l .before .before .before in
-    goesOn (b .args .s .now) (l .loop .at) (endedLength (b .args .s .now)) 83 ≡ true
-line-taken t =
-    let l = t .before .before in
-    let b = l .before .before .before in
-    ap (λ (end : Place). goesOn (b .args .s .now) (l .loop .at) end 83) (sym (b .pre .1)) ∙ sym (t .before .goes-on .ensures) ∙ t .if1 .taken
+columns-of-requires : tie.Need-columns-of-requires Inv-loop μ-loop
+columns-of-requires c κs = search needs
 
-line-inside : (t : tie.Then1 Inv-loop μ-loop) → let l = t .before .before in let b = l .before .before .before in
-    l .loop .at < endedLength (b .args .s .now)
-line-inside t =
-    let l = t .before .before in
-    let sheet = l .before .before .before .args .s .now in
-    ltb-true (l .loop .at) (endedLength sheet)
-    (both (ltb (l .loop .at) (endedLength sheet)) (begins (83 ∷ []) (fieldsAt sheet (l .loop .at))) (line-taken t) .0)
-
--- The turn of a line that was judged
-abbrev turn : tie.After-security-at Inv-loop μ-loop → tie.Then1 Inv-loop μ-loop
-turn a = a .before .before .before .before
-
--- A row, and the next line
-abbrev security : tie.After-found Inv-loop μ-loop → Security
-security f = f .found .given .0 .0
-
-abbrev next : tie.After-found Inv-loop μ-loop → Place
-next f = f .found .given .0 .1 .0
-
--- It was taken
-row-taken : (f : tie.After-found Inv-loop μ-loop) → let l = turn (f .before .before) .before .before in
-    Taken (l .before .before .before .args .s .now) (take (l .loop .count) (l .loop .codes))
-    (take (l .loop .currencies .count) (l .loop .currencies .places)) (l .loop .at) (security f) (next f)
-row-taken f =
-    let a = f .before .before in
-    let l = turn a .before .before in
-    let args = l .before .before .before .args in
-    security-taken (args .s .now) (take (args .classes) (args .kinds .now)) (take (args .classes) (args .borders .now))
-    (take (args .classes) (args .numbers .now)) (take (l .loop .count) (l .loop .codes))
-    (take (l .loop .currencies .count) (l .loop .currencies .places)) (l .loop .at) (line-inside (turn a)) (security f) (next f)
-    (sym (a .security-at .ensures) ∙ f .found .given .1)
-
--- A line that was refused refuses the section
-section-refused : (r : tie.After-enum-told Inv-loop μ-loop) → let l = turn (r .before .before) .before .before in let args = l .before .before .before .args in
-    (cs : List ClassRow)
-    → Bordered (take (args .classes) (args .kinds .now)) (take (args .classes) (args .borders .now)) (take (args .classes) (args .numbers .now)) cs
-    → wholeOf (args .s .now) cs (args .from) ≡ refused (r .enum-told .given .0 .0) (l .loop .count)
-section-refused r cs bordered =
-    let a = r .before .before in
-    let l = turn a .before .before in
-    let args = l .before .before .before .args in
-    held-refused (args .s .now) cs (args .from) (l .loop .inv .1 cs bordered) (take (args .classes) (args .kinds .now)) (take (args .classes) (args .borders .now))
-    (take (args .classes) (args .numbers .now)) bordered (line-taken (turn a)) (r .enum-told .given .0 .0) (sym (a .security-at .ensures) ∙ r .enum-told .given .1)
-
-no-security-requires : tie.Need-no-security-requires Inv-loop μ-loop
-no-security-requires c κs = search needs
+no-securities-requires : tie.Need-no-securities-requires Inv-loop μ-loop
+no-securities-requires c κs = search needs
 
 loop-holds : tie.Need-loop-holds Inv-loop μ-loop
 loop-holds c =
-    let b = c .before .before in
-    let none = ap (λ (s : Security). replicate 200 s) (sym (c .no-security .ensures)) in
-    let sheet = b .args .s .now in
-    let start : b .args .from ≤ endedLength sheet = omega (arith, b .pre) in (
-      subst (λ (rows : List Security). Plain sheet rows (replicate 200 0) noMoney 0 (b .args .from)) none (plain-start sheet (b .args .from) start),
-      λ cs bordered. subst (λ (rows : List Security). Held sheet cs (b .args .from) rows (replicate 200 0) noMoney 0 (b .args .from)) none
-          (held-start sheet cs (b .args .from) start),
-    )
+    let e = c .before .before .before .before .before .before .before .before .before in
+    rw (c .before .before .before .no-securities .ensures) (turn-start (paperClasses (e .args .classes)) (e .args .s .now) (e .args .from) (rw (e .pre .1) at (e .pre .0)))
+
+-- Back to the start, and to the classes' columns
+abbrev start : tie.At-loop Inv-loop μ-loop → tie.Start Inv-loop μ-loop
+start c = c .before .before .before .before .before .before .before .before .before .before
+
+abbrev columns : tie.At-loop Inv-loop μ-loop → tie.After-columns-of Inv-loop μ-loop
+columns c = c .before .before .before .before .before .before .before .before
 
 goes-on-requires : tie.Need-goes-on-requires Inv-loop μ-loop
-goes-on-requires c κs = search needs
+goes-on-requires c κs = (start c .pre .1, λ e. omega arith, λ e. omega arith)
 
-security-at-requires : tie.Need-security-at-requires Inv-loop μ-loop
-security-at-requires c κs =
-    let t = c .before .before .before in
-    let l = t .before .before in
-    let b = l .before .before .before in
-    let plain = l .loop .inv .0 in (
-      (omega (arith, line-inside t, b .pre .1), b .pre .1, b .pre .2, b .pre .3, plain .few, plain .money-few),
-      (plain .codes-long, plain .money-long, plain .codes-inside, plain .money-inside),
-    )
+-- What the loop's test says, up to the last LF
+tested : (c : tie.After-goes-on Inv-loop μ-loop)
+    → let s = start (c .before) .args .s .now in
+    goesOn s (c .before .loop .at) (endedLength s) 83 ≡ c .goes-on .result
+tested c =
+    let e = start (c .before) in
+    ap (λ (n : Place). goesOn (e .args .s .now) (c .before .loop .at) n 83) (sym (e .pre .1)) ∙ sym (c .goes-on .ensures)
 
-enum-known-found : tie.Need-enum-known-found Inv-loop μ-loop
-enum-known-found c = search needs
+security-row-requires : tie.Need-security-row-requires Inv-loop μ-loop
+security-row-requires c κs =
+    let l = c .before .before in
+    let e = start l in
+    (goes-before (e .args .s .now) (l .loop .at) (e .args .end) 83 (sym (c .before .goes-on .ensures) ∙ c .if1 .taken), e .pre .1, e .pre .2)
+
+enum-known-read : tie.Need-enum-known-read Inv-loop μ-loop
+enum-known-read c = search needs
 
 enum-told : tie.Need-enum-told Inv-loop μ-loop
 enum-told c = search needs
 
-found-number-requires : tie.Need-found-number-requires Inv-loop μ-loop
-found-number-requires c κs = search needs
+security-number-requires : tie.Need-security-number-requires Inv-loop μ-loop
+security-number-requires c κs = search needs
 
-no-security-requires-2 : tie.Need-no-security-requires-2 Inv-loop μ-loop
-no-security-requires-2 c κs = search needs
+refused-requires : tie.Need-refused-requires Inv-loop μ-loop
+refused-requires c κs = search needs
 
 returns : tie.Need-returns Inv-loop μ-loop
 returns c =
-    let told = c .before .before .enum-told .given in
-    let a = c .before .before .before .before in
-    let l = turn a .before .before in
-    let b = l .before .before .before in
-    let args = b .args in
-    let sheet = args .s .now in
-    let number = told .0 .0 in (
-      λ cs bordered.
-          ap₂ (λ (n : ℕ) (s : Security). record {
-            refusal = n;
-            count = l .loop .count;
-            rows = replicate 200 s;
-            codes = replicate 200 0;
-            currencies = noMoney;
-            next = 0;
-          }) (c .before .found-number .ensures ∙ ap foundNumber (told .1)) (c .no-security2 .ensures)
-          ∙ refused-held sheet cs (args .from) number (l .loop .count) (section-refused (c .before .before) cs bordered),
-      λ cs bordered. refused-findable sheet cs (args .from) number (l .loop .count) _ (section-refused (c .before .before) cs bordered),
-    )
-
-mul-rows : tie.Need-mul-rows Inv-loop μ-loop
-mul-rows c = search needs
-
-array-set-from-rows : tie.Need-array-set-from-rows Inv-loop μ-loop
-array-set-from-rows c =
-    let f = c .before .before in
-    turn-room (turn (f .before .before) .before .before .loop .inv .0) (row-taken f)
-
-mul-codes : tie.Need-mul-codes Inv-loop μ-loop
-mul-codes c = search needs
-
-array-write-codes : tie.Need-array-write-codes Inv-loop μ-loop
-array-write-codes c =
-    let f = c .before .before in
-    turn-room (turn (f .before .before) .before .before .loop .inv .0) (row-taken f)
-
-with-money-requires : tie.Need-with-money-requires Inv-loop μ-loop
-with-money-requires c κs =
-    let f = c .before .before in
-    let plain = turn (f .before .before) .before .before .loop .inv .0 in (
-      (plain .money-few, plain .money-long, plain .money-inside, turn-currency plain (row-taken f)),
-      turn-known plain (row-taken f),
-    )
-
-add-count : tie.Need-add-count Inv-loop μ-loop
-add-count c = search needs
-
-loop-less : tie.Need-loop-less Inv-loop μ-loop
-loop-less c =
-    let f = c .before .before .before in
-    let t = turn (f .before .before) in
+    let r = c .before .before .before .before in
+    let t = r .before in
     let l = t .before .before in
-    let b = l .before .before .before in
-    let line = line-there (b .args .s .now) (l .loop .at) (line-inside t) in
-    omega (arith, line .further, line-inside t, row-taken f .from-line .behind, b .pre .1)
+    let read = c .before .before .enum-told .given .1 in
+    c .refused .ensures
+    ∙ ap (λ (n : ℕ). securitySection [] [] 0 (refused n (l .loop .count))) (c .before .security-number .ensures ∙ ap securityNumber read)
+    ∙ turn-refused (start l .args .classes) (start l .pre .4) (l .loop .inv) (tested (t .before) ∙ t .if1 .taken) _ (sym (r .security-row .ensures) ∙ read)
 
-loop-again : tie.Need-loop-again Inv-loop μ-loop
-loop-again c =
-    let f = c .before .before .before in
-    let a = f .before .before in
-    let t = turn a in
-    let l = t .before .before in
-    let args = l .before .before .before .args in
-    let sheet = args .s .now in
-    let plain = l .loop .inv .0 in
-    rw (c .with-money .ensures) (
-      plain-more plain (row-taken f) (line-inside t),
-      λ cs bordered.
-          held-turn sheet cs (args .from) (l .loop .inv .1 cs bordered) (take (args .classes) (args .kinds .now)) (take (args .classes) (args .borders .now))
-          (take (args .classes) (args .numbers .now)) bordered (line-taken t) plain (security f) (next f) (sym (a .security-at .ensures) ∙ f .found .given .1) (row-taken f),
-    )
+-- A row that was read is one of the paper's
+abbrev turn : tie.After-known-told Inv-loop μ-loop → tie.Then1 Inv-loop μ-loop
+turn c = c .before .before .before .before
 
-with-ranks-requires : tie.Need-with-ranks-requires Inv-loop μ-loop
-with-ranks-requires c κs =
-    let plain = c .before .before .loop .inv .0 in
-    ((plain .few, plain .money-few, plain .money-inside), plain .rows-inside)
+abbrev loop : tie.After-known-told Inv-loop μ-loop → tie.At-loop Inv-loop μ-loop
+loop c = turn c .before .before
+
+there : (c : tie.After-known-told Inv-loop μ-loop)
+    → Read (start (loop c) .args .classes) (start (loop c) .pre .4) (loop c .loop .inv) (tested (turn c .before) ∙ turn c .if1 .taken) (c .before .read .given .0 .0) (c .before .read .given .0 .1 .0)
+there c =
+    turn-row (start (loop c) .args .classes) (start (loop c) .pre .4) (loop c .loop .inv) (tested (turn c .before) ∙ turn c .if1 .taken) _ _ (sym (c .before .before .before .security-row .ensures) ∙ c .before .read .given .1)
+
+ranked-requires : tie.Need-ranked-requires Inv-loop μ-loop
+ranked-requires c κs = let l = loop (c .before .before) in turn-most (start l .args .classes) (start l .pre .4) (l .loop .inv) .1
+
+class-of-requires : tie.Need-class-of-requires Inv-loop μ-loop
+class-of-requires c κs = start (loop (c .before .before .before .before .before .before)) .pre .3
+
+broken-requires : tie.Need-broken-requires Inv-loop μ-loop
+broken-requires c κs = search needs
+
+-- What judges the row
+abbrev standing : tie.After-class-of Inv-loop μ-loop → tie.After-ranked Inv-loop μ-loop
+standing c = c .before .before .before .before
+
+abbrev row : tie.After-class-of Inv-loop μ-loop → tie.After-known-told Inv-loop μ-loop
+row c = standing c .before .before .before
+
+class-is : (c : tie.After-class-of Inv-loop μ-loop) → c .class-of .result ≡ classFor (start (loop (row c)) .args .classes) (row c .before .read .given .0 .0)
+class-is c =
+    let s = row c .before .read .given .0 .0 in
+    let n = start (loop (row c)) .args .classes .count in
+    c .class-of .ensures
+    ∙ ap (λ (all : Columns). classIn (take n (all .kinds)) (take n (all .borders)) (take n (all .numbers)) (s .kind) (s .duration)) (columns (loop (row c)) .columns-of .ensures)
+
+judged : (c : tie.After-broken Inv-loop μ-loop)
+    → let r = row (c .before) in
+    let l = loop r .loop in
+    let s = r .before .read .given .0 .0 in
+    c .broken .result ≡ brokenOf (l .count) (standingIn (l .currencies) s .there) (l .currencies .count) (l .last) (s .number) (classFor (start (loop r) .args .classes) s)
+judged c =
+    let r = row (c .before) in
+    let l = loop r .loop in
+    let s = r .before .read .given .0 .0 in
+    c .broken .ensures
+    ∙ ap₂ (λ (st : Standing) (n : ℕ). brokenOf (l .count) (st .there) (l .currencies .count) (l .last) (s .number) n) (standing (c .before) .ranked .ensures) (class-is (c .before))
+
+refused-requires-2 : tie.Need-refused-requires-2 Inv-loop μ-loop
+refused-requires-2 c κs = search needs
 
 returns-2 : tie.Need-returns-2 Inv-loop μ-loop
 returns-2 c =
-    let l = c .before .before .before in
-    let b = l .before .before .before in
-    let sheet = b .args .s .now in
-    let from = b .args .from in
-    let plain = l .loop .inv .0 in
-    let stopped : goesOn sheet (l .loop .at) (endedLength sheet) 83 ≡ false =
-    ap (λ (end : Place). goesOn sheet (l .loop .at) end 83) (sym (b .pre .1)) ∙ sym (c .before .before .goes-on .ensures) ∙ c .before .if1 .left
-    in
-    rw (c .with-ranks .ensures) (
-      λ cs bordered. ended-held sheet cs from (l .loop .inv .1 cs bordered) plain stopped,
-      λ cs bordered. ended-findable sheet cs from (l .loop .inv .1 cs bordered) plain stopped,
-    )
+    let b = c .before .before in
+    let r = row (b .before) in
+    let l = loop r in
+    c .refused2 .ensures
+    ∙ turn-broken (start l .args .classes) (start l .pre .4) (l .loop .inv) (tested (turn r .before) ∙ turn r .if1 .taken) (there r) _ (judged b) (c .before .if2 .taken)
+
+-- It breaks no rule
+unbroken : (c : tie.Else2 Inv-loop μ-loop)
+    → let r = row (c .before .before) in
+    let l = loop r .loop in
+    let s = r .before .read .given .0 .0 in
+    brokenOf (l .count) (standingIn (l .currencies) s .there) (l .currencies .count) (l .last) (s .number) (classFor (start (loop r) .args .classes) s) ≡ 0
+unbroken c = sym (judged (c .before)) ∙ c .if2 .left
+
+security-of-requires : tie.Need-security-of-requires Inv-loop μ-loop
+security-of-requires c κs =
+    let r = row (c .before .before) in
+    let l = loop r in
+    let on = tested (turn r .before) ∙ turn r .if1 .taken in
+    (turn-small (start l .args .classes) (start l .pre .4) (l .loop .inv) on (there r), rw (class-is (c .before .before)) (turn-class (start l .args .classes) (start l .pre .4) (l .loop .inv) on (there r)))
+
+-- There is room for it
+free : (c : tie.Else2 Inv-loop μ-loop) → loop (row (c .before .before)) .loop .count < 200
+free c =
+    let r = row (c .before .before) in
+    let l = loop r in
+    turn-free (start l .args .classes) (start l .pre .4) (l .loop .inv) (tested (turn r .before) ∙ turn r .if1 .taken) (there r) (unbroken c)
+
+mul-rows : tie.Need-mul-rows Inv-loop μ-loop
+mul-rows c = omega (arith, free (c .before))
+
+array-set-from-rows : tie.Need-array-set-from-rows Inv-loop μ-loop
+array-set-from-rows c = free (c .before)
+
+mul-codes : tie.Need-mul-codes Inv-loop μ-loop
+mul-codes c = omega (arith, free (c .before))
+
+array-write-codes : tie.Need-array-write-codes Inv-loop μ-loop
+array-write-codes c = omega (arith, free (c .before))
+
+mul-money : tie.Need-mul-money Inv-loop μ-loop
+mul-money c = omega (arith, free (c .before))
+
+array-write-money : tie.Need-array-write-money Inv-loop μ-loop
+array-write-money c = free (c .before)
+
+inserted-requires : tie.Need-inserted-requires Inv-loop μ-loop
+inserted-requires c κs =
+    let e = c .before .before .before in
+    let r = row (e .before .before) in
+    let l = loop r in
+    turn-room (start l .args .classes) (start l .pre .4) (l .loop .inv) (tested (turn r .before) ∙ turn r .if1 .taken) (there r) (unbroken e) _ (standing (e .before .before) .ranked .ensures) (not-true _ (c .if3 .taken))
+
+add-count : tie.Need-add-count Inv-loop μ-loop
+add-count c = omega (arith, free (c .before .before .before))
+
+loop-less : tie.Need-loop-less Inv-loop μ-loop
+loop-less c =
+    let r = row (c .before .before .before .before .before) in
+    omega (arith, there r .further, start (loop r) .pre .1)
+
+loop-again : tie.Need-loop-again Inv-loop μ-loop
+loop-again c =
+    let e = c .before .before .before in
+    let r = row (e .before .before) in
+    let l = loop r in
+    let on = tested (turn r .before) ∙ turn r .if1 .taken in
+    let ranks = standing (e .before .before) .ranked .ensures in
+    let known = turn-known (start l .args .classes) (start l .pre .4) (l .loop .inv) on (there r) (unbroken e) _ ranks in
+    let new = turn-new (start l .args .classes) (start l .pre .4) (l .loop .inv) on (there r) (unbroken e) _ ranks in
+    rw (c .before .before .security-of .ensures, class-is (e .before .before))
+    (turn-more (start l .args .classes) (start l .pre .4) (l .loop .inv) on (there r) (unbroken e) _ ranks _
+    (⊎-elim (λ w. w .2 ∙ w .1 .ensures ∙ new (not-true _ (w .0 .taken))) (λ w. w .1 ∙ known (not-false _ (w .0 .left))) (c .if3 .came)))
+
+with-ranks-requires : tie.Need-with-ranks-requires Inv-loop μ-loop
+with-ranks-requires c κs = let l = c .before .before .before in turn-most (start l .args .classes) (start l .pre .4) (l .loop .inv)
+
+returns-3 : tie.Need-returns-3 Inv-loop μ-loop
+returns-3 c =
+    let t = c .before .before in
+    let l = t .before .before in
+    rw (c .with-ranks .ensures) (turn-ended (start l .args .classes) (start l .pre .4) (l .loop .inv) (tested (t .before) ∙ t .if1 .left))
 
 pub security-section-spec : {M : Type 1} → statement M
 security-section-spec =
@@ -224,22 +230,31 @@ security-section-spec =
     (tie.spec
     Inv-loop
     μ-loop
-    no-security-requires
+    columns-of-requires
+    no-securities-requires
     loop-holds
     goes-on-requires
-    security-at-requires
-    enum-known-found
+    security-row-requires
+    enum-known-read
     enum-told
-    found-number-requires
-    no-security-requires-2
+    security-number-requires
+    refused-requires
     returns
+    ranked-requires
+    class-of-requires
+    broken-requires
+    refused-requires-2
+    returns-2
+    security-of-requires
     mul-rows
     array-set-from-rows
     mul-codes
     array-write-codes
-    with-money-requires
+    mul-money
+    array-write-money
+    inserted-requires
     add-count
     loop-less
     loop-again
     with-ranks-requires
-    returns-2)
+    returns-3)

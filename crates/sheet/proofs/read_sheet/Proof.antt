@@ -5,14 +5,11 @@ use mathlib.Core.Bool.{true, false}
 use mathlib.Core.Path.{_≡_, sym, ap, _∙_}
 use borrow.Author.Needs.{needs}
 use borrow.Author.Tests.{not-true, not-false}
-use lib.ListN.{drop}
-use Rattle.paper.specs.Text.{lines}
-use Rattle.paper.specs.Sheet.{readTables}
+use Rattle.paper.specs.Refusals.{refused}
 use Rattle.fields.specs.Places.{Place, endedLength}
-use Rattle.rows.specs.Reads.{dateNumber}
-use Rattle.rows.specs.Sections.{goesOn}
-use Rattle.rows.proofs.Begins as begins
-use Rattle.sheet.specs.Whole.{headerNumber, refusedSheet, heldFrom, heldSheet}
+use Rattle.sections.specs.Sections.{goesOn}
+use Rattle.sections.proofs.Loops.{goes-before}
+use Rattle.sheet.specs.Whole.{headerNumber, dateNumber, heldSheet}
 use Rattle.sheet.proofs.Starting.{header-right, header-wrong, header-ended, no-date, DateThere, date-read, date-number-read, read-no-header, read-behind}
 use Rattle.sheet.proofs.read_sheet.Statement.{statement}
 use Rattle.sheet.proofs.read_sheet.Tie as tie
@@ -27,8 +24,8 @@ returns : tie.Need-returns
 returns c =
     let h = c .before .before in
     let s = h .before .before .args .s .now in
-    c .refused .ensures ∙ ap (λ (n : ℕ). refusedSheet n 1) (h .header-number .ensures)
-    ∙ sym (ap (heldSheet s) (read-no-header s (headerNumber s) (header-wrong s (λ e. c .before .if1 .taken (h .header-number .ensures ∙ e)))))
+    c .refused .ensures ∙ ap (λ (n : ℕ). heldSheet (refused n 1)) (h .header-number .ensures)
+    ∙ sym (ap heldSheet (read-no-header s (headerNumber s) (header-wrong s (λ e. c .before .if1 .taken (h .header-number .ensures ∙ e)))))
 
 -- The header is right
 header-is : (c : tie.Else1) → headerNumber (c .before .before .before .args .s .now) ≡ 0
@@ -55,7 +52,7 @@ returns-2 c =
     ap (λ (end : Place). goesOn s 6 end 68) (sym (g .before .ended .ensures)) ∙ sym (g .goes-on .ensures) ∙ not-true (g .goes-on .result) (c .before .if2 .taken)
     in
     let right = header-is f in
-    c .refused2 .ensures ∙ sym (ap (heldSheet s) (read-behind s _ (header-right s right) _ (no-date s (header-ended s right) none)))
+    c .refused2 .ensures ∙ sym (ap heldSheet (read-behind s _ (header-right s right) _ (no-date s (header-ended s right) none)))
 
 -- A line begins as the D row
 goes : (c : tie.Else2) → goesOn (c .before .before .before .before .before .before .before .args .s .now) 6 (endedLength (c .before .before .before .before .before .before .before .args .s .now)) 68 ≡ true
@@ -67,7 +64,7 @@ date-row-requires : tie.Need-date-row-requires
 date-row-requires c κs =
     let f = c .before in
     let s = f .before .before .before .before .before .before .before .args .s .now in
-    let there = begins.goes s 6 (endedLength s) 68 (goes f) .0 in
+    let there = goes-before s 6 (endedLength s) 68 (goes f) in
     (omega (arith, there, f .before .before .ended .ensures), f .before .before .ended .ensures, f .before .before .before .new-years .ensures)
 
 enum-known-read : tie.Need-enum-known-read
@@ -88,8 +85,8 @@ returns-3 c =
     let r = e .before .before in
     let f = r .before .before in
     let s = f .before .before .before .before .before .before .before .args .s .now in
-    c .refused3 .ensures ∙ ap (λ (n : ℕ). refusedSheet n 2) (c .before .date-number .ensures ∙ ap dateNumber (e .enum-told .given .1))
-    ∙ sym (ap (heldSheet s) (read-behind s _ (header-right s (header-is (f .before .before .before .before))) _ (date-number-read s (goes f) _ (sym (r .date-row .ensures) ∙ e .enum-told .given .1))))
+    c .refused3 .ensures ∙ ap (λ (n : ℕ). heldSheet (refused n 2)) (c .before .date-number .ensures ∙ ap dateNumber (e .enum-told .given .1))
+    ∙ sym (ap heldSheet (read-behind s _ (header-right s (header-is (f .before .before .before .before))) _ (date-number-read s (goes f) _ (sym (r .date-row .ensures) ∙ e .enum-told .given .1))))
 
 -- The D row as it was read
 date-is : (c : tie.After-known-told)
@@ -98,12 +95,12 @@ date-is c =
     let r = c .before .before .before in
     date-read (c .before .before .before .before .before .before .before .before .before .before .before .before .args .s .now) (goes (r .before .before)) _ _ (sym (r .date-row .ensures) ∙ c .before .read .given .1)
 
-tables-requires : tie.Need-tables-requires
-tables-requires c κs =
+tables-from-requires : tie.Need-tables-from-requires
+tables-from-requires c κs =
     let k = c .before in
     let f = k .before .before .before .before .before in
     let d = date-is k in
-    ((f .before .before .before .before .before .before .before .pre, omega (arith, d .within, f .before .before .ended .ensures), f .before .before .ended .ensures, f .before .before .before .new-years .ensures), (d .held, d .below))
+    (f .before .before .before .before .before .before .before .pre, omega (arith, d .within, f .before .before .ended .ensures), f .before .before .ended .ensures, f .before .before .before .new-years .ensures, d .below)
 
 returns-4 : tie.Need-returns-4
 returns-4 c =
@@ -111,11 +108,8 @@ returns-4 c =
     let f = k .before .before .before .before .before in
     let s = f .before .before .before .before .before .before .before .args .s .now in
     let d = date-is k in
-    let date = k .before .read .given .0 .0 in
-    let next = k .before .read .given .0 .1 .0 in
-    c .tables .ensures
-    ∙ ap (λ (p : Place). heldFrom s p (readTables (date .date) (3, lines (drop next s)))) (d .behind)
-    ∙ sym (ap (heldSheet s) (read-behind s _ (header-right s (header-is (f .before .before .before .before))) _ (d .read)))
+    c .tables-from .ensures (d .date) (d .its-day)
+    ∙ sym (ap heldSheet (read-behind s _ (header-right s (header-is (f .before .before .before .before))) _ (d .read)))
 
 pub read-sheet-spec : {M : Type 1} → statement M
 read-sheet-spec =
@@ -135,5 +129,5 @@ read-sheet-spec =
     date-number-requires
     refused-requires-3
     returns-3
-    tables-requires
+    tables-from-requires
     returns-4)

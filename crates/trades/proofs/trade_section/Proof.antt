@@ -1,176 +1,202 @@
--- `trades::trade_section` meets its contract. The loop's invariant: whatever the securities are that stand behind the places,
--- the table holds the rows so far and the section goes on from the loop's place, which is at most the end. The measure is the bytes left.
-use Prim.Native.Nat.{ℕ, _-_, _≤_, _<_}
+-- `trades::trade_section` meets its contract. The loop's invariant: the table has the rows above, and the section goes on from
+-- `at`. The measure is the bytes left up to `end`.
+use Prim.Native.Nat.{ℕ, _-_, _<_}
 use native.Mathlib.Omega.{arith}
 use mathlib.Core.Bool.{true}
-use mathlib.Core.List.{List}
-use mathlib.Core.Path.{_≡_, sym, ap, ap₂, _∙_, subst}
+use mathlib.Core.List.{[]}
+use mathlib.Core.Path.{_≡_, sym, ap, _∙_}
 use borrow.Author.Needs.{needs}
-use lib.ListN.{length, take, replicate}
-use lib.Seq.{length-take-le}
-use Rattle.paper.specs.Units.{Number, Day}
-use Rattle.paper.specs.Rows.{SecurityRow, readTrade}
-use Rattle.paper.specs.Refusals.{tradeRules}
+use lib.Dec.{eqb}
+use Rattle.paper.specs.Refusals.{refused}
 use Rattle.fields.specs.Places.{Place, endedLength}
-use Rattle.fields.proofs.Places.{line-there}
-use Rattle.rows.specs.Sections.{goesOn}
-use Rattle.rows.proofs.Loops.{going-start}
-use Rattle.searches.specs.Searches.{Searchable}
-use Rattle.searches.proofs.Codes.{keys-searchable}
-use Rattle.trades.specs.Tables.{Stands, Keyed, noTrade, heldFound, foundNumber}
-use Rattle.trades.specs.declared.Trade.{Trade}
-use Rattle.trades.proofs.Turns.{TradesGoing, line-on, row-taken, all-read, turn-on, turn-refused}
+use Rattle.sections.specs.Sections.{goesOn}
+use Rattle.sections.proofs.Loops.{goes-before}
+use Rattle.trades.specs.Read.{readNumber}
+use Rattle.trades.specs.Found.{tradeOf}
+use Rattle.trades.specs.Section.{tradeSection}
+use Rattle.trades.specs.declared.TradeRow.{TradeRow}
+use Rattle.trades.proofs.Turns.{place-below, accrual-below, knownOf, brokenRow, keptRow, Turn, turn-start, turn-refused, Read, turn-row, turn-broken, turn-free, turn-small, turn-more, turn-ended}
 use Rattle.trades.proofs.trade_section.Statement.{statement}
 use Rattle.trades.proofs.trade_section.Tie as tie
 
 abbrev Inv-loop : tie.InvT-loop
-Inv-loop s years from end today working codes previous next many keys rows₀ count₀ at₀ rows count at =
-    (at ≤ endedLength s)
-    × ((ss : List SecurityRow) → Stands s (take many codes) (take many previous) (take many next) ss → TradesGoing s today (take many codes) from ss rows count at)
+Inv-loop s years from end today working securities codes held rows₀ count₀ at₀ rows count at = Turn today securities s from rows count at
 
 abbrev μ-loop : tie.MeasureT-loop
-μ-loop s years from end today working codes previous next many keys rows₀ count₀ at₀ rows count at = endedLength s - at
+μ-loop s years from end today working securities codes held rows₀ count₀ at₀ rows count at = end - at
 
--- What the code knows of the securities: their codes' places, and their previous and next coupon days
-module _ (b : tie.Start Inv-loop μ-loop) where
-  abbrev codes : List Place
-  codes = take (b .args .many) (b .args .codes .now)
+no-trades-requires : tie.Need-no-trades-requires Inv-loop μ-loop
+no-trades-requires c κs = search needs
 
-  abbrev previous : List Day
-  previous = take (b .args .many) (b .args .previous .now)
-
-  abbrev next : List Day
-  next = take (b .args .many) (b .args .next .now)
-
--- The keys are those of the codes, and can be searched
-module _ (k : tie.After-codes Inv-loop μ-loop) where
-  abbrev start : tie.Start Inv-loop μ-loop
-  start = k .before .before .before
-
-  as-many : length (codes start) ≡ start .args .many
-  as-many = length-take-le (start .args .many) (start .args .codes .now) (omega (arith, start .pre .0 .4, k .codes .given))
-
-  keyed : Keyed (start .args .s .now) (k .before .keys-of .result) (start .args .many) (codes start)
-  keyed = record { as-many = as-many; coded = start .pre .1 .0; keys-of = k .before .keys-of .ensures }
-
-  searchable : Searchable (k .before .keys-of .result) (start .args .many)
-  searchable =
-      subst (Searchable (k .before .keys-of .result)) as-many
-      (subst (λ (keys : List ℕ). Searchable keys (length (codes start))) (sym (k .before .keys-of .ensures))
-      (keys-searchable (start .args .s .now) (codes start) (start .pre .1 .0) (start .pre .1 .1) (omega (arith, as-many, start .pre .0 .4))))
-
--- Whether the section goes on, up to the end of the sheet's lines
-goes : (c : tie.After-goes-on Inv-loop μ-loop)
-    → let s = c .before .before .before .before .before .before .args .s .now in goesOn s (c .before .loop .at) (endedLength s) 84 ≡ c .goes-on .result
-goes c =
-    let b = c .before .before .before .before .before .before in
-    ap (λ (end : Place). goesOn (b .args .s .now) (c .before .loop .at) end 84) (sym (b .pre .0 .1)) ∙ sym (c .goes-on .ensures)
-
--- In a turn it does
-goes-in : (c : tie.Then1 Inv-loop μ-loop)
-    → let s = c .before .before .before .before .before .before .before .args .s .now in goesOn s (c .before .before .loop .at) (endedLength s) 84 ≡ true
-goes-in c = goes (c .before) ∙ c .if1 .taken
-
--- A row that is taken has fewer than 500 above it, and a next line further on
-taken : (c : tie.After-known-told Inv-loop μ-loop)
-    → let l = c .before .before .before .before .before .before .before in
-    (l .loop .count < 500) × (l .loop .at < c .before .found .given .0 .1 .0) × (c .before .found .given .0 .1 .0 ≤ endedLength (l .before .before .before .before .before .args .s .now))
-taken c =
-    let t = c .before .before .before in
-    let l = t .before .before .before .before in
-    let b = l .before .before .before .before .before in
-    let a = b .args in
-    let there = line-on (a .s .now) (l .loop .at) (goes-in (t .before .before)) in
-    let line = line-there (a .s .now) (l .loop .at) there in
-    let (few, behind) =
-    row-taken (a .s .now) (a .today) (a .working) (codes b) (previous b) (next b) (l .loop .count) (l .loop .at) _ _ there
-    (sym (t .trade-at .ensures (codes b) (keyed (l .before .before))) ∙ c .before .found .given .1)
-    in
-    (few, omega (arith, line .further), omega (arith, line .most))
-
-keys-of-requires : tie.Need-keys-of-requires Inv-loop μ-loop
-keys-of-requires c κs = (c .before .pre .0 .4, c .before .pre .1 .0)
-
-no-trade-requires : tie.Need-no-trade-requires Inv-loop μ-loop
-no-trade-requires c κs = search needs
+abbrev begin : tie.At-loop Inv-loop μ-loop → tie.Start Inv-loop μ-loop
+begin l = l .before .before .before .before .before .before
 
 loop-holds : tie.Need-loop-holds Inv-loop μ-loop
 loop-holds c =
-    let b = c .before .before .before .before in
-    let within : b .args .from ≤ endedLength (b .args .s .now) = omega arith in (
-      within,
-      λ ss stands.
-          rw (c .no-trade .ensures)
-          (going-start (b .args .s .now) 84 9 readTrade (tradeRules (b .args .today) ss) (heldFound (b .args .s .now) (b .args .today) (codes b)) noTrade 500
-          (b .args .from) within),
-    )
+    let a = c .before .before .before .before .before .args in
+    rw (c .before .no-trades .ensures) (turn-start (a .today) (a .securities) (a .s .now) (a .from) (omega arith))
 
 goes-on-requires : tie.Need-goes-on-requires Inv-loop μ-loop
-goes-on-requires c κs = (c .before .before .before .before .before .pre .0 .1, λ e. omega arith, λ e. omega arith)
+goes-on-requires c κs = (begin c .pre .0 .1, λ e. omega arith, λ e. omega arith)
 
-trade-at-requires : tie.Need-trade-at-requires Inv-loop μ-loop
-trade-at-requires c κs =
-    let k = c .before .before .before .before .before in
-    let b = k .before .before .before in
-    let there = line-on (b .args .s .now) (c .before .before .before .loop .at) (goes-in (c .before)) in
-    (omega arith, b .pre .0 .1, b .pre .0 .2, b .pre .0 .4, searchable k)
+-- What the loop's test says, up to the last LF
+tested : (c : tie.After-goes-on Inv-loop μ-loop)
+    → let s = begin (c .before) .args .s .now in goesOn s (c .before .loop .at) (endedLength s) 84 ≡ c .goes-on .result
+tested c =
+    let b = begin (c .before) in
+    ap (λ (n : Place). goesOn (b .args .s .now) (c .before .loop .at) n 84) (sym (b .pre .0 .1)) ∙ sym (c .goes-on .ensures)
 
-enum-known-found : tie.Need-enum-known-found Inv-loop μ-loop
-enum-known-found c = search needs
+on : (c : tie.Then1 Inv-loop μ-loop)
+    → let s = begin (c .before .before) .args .s .now in goesOn s (c .before .before .loop .at) (endedLength s) 84 ≡ true
+on c = tested (c .before) ∙ c .if1 .taken
+
+trade-row-requires : tie.Need-trade-row-requires Inv-loop μ-loop
+trade-row-requires c κs =
+    let b = begin (c .before .before) in
+    (goes-before (b .args .s .now) (c .before .before .loop .at) (b .args .end) 84 (sym (c .before .goes-on .ensures) ∙ c .if1 .taken), b .pre .0 .1, b .pre .0 .2)
+
+enum-known-read : tie.Need-enum-known-read Inv-loop μ-loop
+enum-known-read c = search needs
 
 enum-told : tie.Need-enum-told Inv-loop μ-loop
 enum-told c = search needs
 
-found-number-requires : tie.Need-found-number-requires Inv-loop μ-loop
-found-number-requires c κs = search needs
+trade-number-requires : tie.Need-trade-number-requires Inv-loop μ-loop
+trade-number-requires c κs = search needs
 
-no-trade-requires-2 : tie.Need-no-trade-requires-2 Inv-loop μ-loop
-no-trade-requires-2 c κs = search needs
+refused-requires : tie.Need-refused-requires Inv-loop μ-loop
+refused-requires c κs = search needs
 
 returns : tie.Need-returns Inv-loop μ-loop
-returns c = λ ss stands.
-    let e = c .before .before in
-    let t = e .before .before in
-    let l = t .before .before .before .before in
-    let b = l .before .before .before .before .before in
-    let a = b .args in
-    ap₂ (λ (number : Number) (empty : Trade). record { refusal = number; count = l .loop .count; rows = replicate 500 empty; next = 0 })
-    (c .before .found-number .ensures ∙ ap foundNumber (e .enum-told .given .1)) (c .no-trade2 .ensures)
-    ∙ turn-refused (a .s .now) (a .today) (codes b) (a .from) ss (l .loop .inv .1 ss stands) (a .working) (previous b) (next b) (b .pre .0 .3) stands
-    (goes-in (t .before .before)) _ (sym (t .trade-at .ensures (codes b) (keyed (l .before .before))) ∙ e .enum-told .given .1)
+returns c =
+    let r = c .before .before .before .before in
+    let t = r .before in
+    let read = c .before .before .enum-told .given .1 in
+    c .refused .ensures
+    ∙ ap (λ (n : ℕ). tradeSection 0 [] [] 0 (refused n (t .before .before .loop .count))) (c .before .trade-number .ensures ∙ ap readNumber read)
+    ∙ turn-refused (t .before .before .loop .inv) (on t) _ (sym (r .trade-row .ensures) ∙ read)
 
-mul-rows : tie.Need-mul-rows Inv-loop μ-loop
-mul-rows c = omega (arith, taken c .0)
+-- A row that was read is one of the paper's
+abbrev turn : tie.After-known-told Inv-loop μ-loop → tie.Then1 Inv-loop μ-loop
+turn c = c .before .before .before .before
 
-array-set-from-rows : tie.Need-array-set-from-rows Inv-loop μ-loop
-array-set-from-rows c = taken c .0
+there : (c : tie.After-known-told Inv-loop μ-loop)
+    → Read (turn c .before .before .loop .inv) (on (turn c)) (c .before .read .given .0 .0) (c .before .read .given .0 .1 .0)
+there c =
+    let t = turn c in
+    turn-row (t .before .before .loop .inv) (on t) _ _ (sym (c .before .before .before .trade-row .ensures) ∙ c .before .read .given .1)
 
-add-count : tie.Need-add-count Inv-loop μ-loop
-add-count c = omega (arith, taken c .0)
+find-requires : tie.Need-find-requires Inv-loop μ-loop
+find-requires c κs = begin (turn (c .before) .before .before) .pre .1
 
-loop-less : tie.Need-loop-less Inv-loop μ-loop
-loop-less c = omega (arith, taken c .1, taken c .2)
+place-or-first-requires : tie.Need-place-or-first-requires Inv-loop μ-loop
+place-or-first-requires c κs = search needs
 
-loop-again : tie.Need-loop-again Inv-loop μ-loop
-loop-again c =
-    let t = c .before .before .before in
-    let l = t .before .before .before .before in
-    let b = l .before .before .before .before .before in
-    let a = b .args in (
-      taken c .2,
-      λ ss stands.
-          turn-on (a .s .now) (a .today) (codes b) (a .from) ss (l .loop .inv .1 ss stands) (a .working) (previous b) (next b) (b .pre .0 .3) stands
-          (goes-in (t .before .before)) _ _ (sym (t .trade-at .ensures (codes b) (keyed (l .before .before))) ∙ c .before .found .given .1),
-    )
+is-margined-requires : tie.Need-is-margined-requires Inv-loop μ-loop
+is-margined-requires c κs = search needs
+
+accrual-day-requires : tie.Need-accrual-day-requires Inv-loop μ-loop
+accrual-day-requires c κs = search needs
+
+-- The place that is looked at is one of the table
+known-below : (c : tie.After-place-or-first Inv-loop μ-loop) → c .place-or-first .result < 200
+known-below c = rw (c .place-or-first .ensures) (place-below _ _ (begin (turn (c .before .before .before .before) .before .before) .pre .1 .0))
+
+known : (c : tie.After-place-or-first Inv-loop μ-loop)
+    → let r = c .before .before .before .before in
+    let a = begin (turn r .before .before) .args in
+    c .place-or-first .result ≡ knownOf (a .today) (a .working) (a .securities) (r .before .read .given .0 .0)
+known c = cc
+
+mul-in-period : tie.Need-mul-in-period Inv-loop μ-loop
+mul-in-period c = omega (arith, known-below (c .before .before .before))
+
+array-copy-out-in-period : tie.Need-array-copy-out-in-period Inv-loop μ-loop
+array-copy-out-in-period c = known-below (c .before .before .before)
+
+in-period-requires : tie.Need-in-period-requires Inv-loop μ-loop
+in-period-requires c κs = search needs
+
+broken-requires : tie.Need-broken-requires Inv-loop μ-loop
+broken-requires c κs = search needs
+
+-- Back from where the row is judged to where it was read
+abbrev row : tie.After-accrual-day Inv-loop μ-loop → tie.After-known-told Inv-loop μ-loop
+row c = c .before .before .before .before .before .before .before
+
+abbrev judging : tie.After-broken Inv-loop μ-loop → tie.After-accrual-day Inv-loop μ-loop
+judging c = c .before .before .before
+
+-- What it is judged by
+judged : (c : tie.After-broken Inv-loop μ-loop)
+    → let r = row (judging c) in
+    let l = turn r .before .before in
+    let a = begin l .args in
+    c .broken .result ≡ brokenRow (a .today) (a .working) (a .securities) (l .loop .count) (r .before .read .given .0 .0)
+judged c = cc
+
+refused-requires-2 : tie.Need-refused-requires-2 Inv-loop μ-loop
+refused-requires-2 c κs = search needs
 
 returns-2 : tie.Need-returns-2 Inv-loop μ-loop
 returns-2 c =
-    let l = c .before .before in
-    let b = l .before .before .before .before .before in
-    let a = b .args in
-    λ ss stands.
-    all-read (a .s .now) (a .today) (codes b) (a .from) ss (l .loop .inv .1 ss stands)
-    (goes (c .before) ∙ c .if1 .left)
+    let b = c .before .before in
+    let r = row (judging b) in
+    let t = turn r in
+    c .refused2 .ensures ∙ ap (λ (n : ℕ). tradeSection 0 [] [] 0 (refused n (t .before .before .loop .count))) (judged b)
+    ∙ turn-broken (t .before .before .loop .inv) (on t) (there r) (begin (t .before .before) .pre .0 .3) (λ none. c .before .if2 .taken (judged b ∙ none))
+
+-- It breaks no rule
+module _ (c : tie.Else2 Inv-loop μ-loop) where
+  abbrev its-row : tie.After-known-told Inv-loop μ-loop
+  its-row = row (judging (c .before))
+
+  abbrev its-loop : tie.At-loop Inv-loop μ-loop
+  its-loop = turn its-row .before .before
+
+  abbrev its-read : TradeRow
+  its-read = its-row .before .read .given .0 .0
+
+  unbroken : let a = begin its-loop .args in brokenRow (a .today) (a .working) (a .securities) (its-loop .loop .count) its-read ≡ 0
+  unbroken = sym (judged (c .before)) ∙ c .if2 .left
+
+  free : its-loop .loop .count < 500
+  free = turn-free (its-loop .loop .inv) (on (turn its-row)) (there its-row) (begin its-loop .pre .0 .3) unbroken
+
+trade-of-requires : tie.Need-trade-of-requires Inv-loop μ-loop
+trade-of-requires c κs =
+    let l = its-loop c in
+    let few = turn-small (l .loop .inv) (on (turn (its-row c))) (there (its-row c)) (begin l .pre .0 .3) (unbroken c) in
+    let j = judging (c .before) in
+    (few, known-below (j .before .before .before), rw (j .accrual-day .ensures) (accrual-below (eqb (its-read c .trade) 1) (few .first) (begin l .pre .0 .4)))
+
+mul-rows : tie.Need-mul-rows Inv-loop μ-loop
+mul-rows c = omega (arith, free (c .before))
+
+array-set-from-rows : tie.Need-array-set-from-rows Inv-loop μ-loop
+array-set-from-rows c = free (c .before)
+
+add-count : tie.Need-add-count Inv-loop μ-loop
+add-count c = omega (arith, free (c .before))
+
+loop-less : tie.Need-loop-less Inv-loop μ-loop
+loop-less c = omega (arith, there (its-row (c .before)) .further, begin (its-loop (c .before)) .pre .0 .1)
+
+-- What is kept of it
+kept : (c : tie.After-trade-of Inv-loop μ-loop)
+    → let a = begin (its-loop (c .before)) .args in c .trade-of .result ≡ keptRow (a .today) (a .working) (a .securities) (its-read (c .before))
+kept c =
+    let j = judging (c .before .before) in
+    c .trade-of .ensures
+    ∙ (λ i. tradeOf (its-read (c .before)) (known (j .before .before .before) i) (j .before .is-margined .ensures i) (j .accrual-day .ensures i))
+
+loop-again : tie.Need-loop-again Inv-loop μ-loop
+loop-again c =
+    let e = c .before in
+    rw (kept c) (turn-more (its-loop e .loop .inv) (on (turn (its-row e))) (there (its-row e)) (begin (its-loop e) .pre .0 .3) (unbroken e))
+
+returns-3 : tie.Need-returns-3 Inv-loop μ-loop
+returns-3 c = turn-ended (c .before .before .loop .inv) (tested (c .before) ∙ c .if1 .left)
 
 pub trade-section-spec : {M : Type 1} → statement M
 trade-section-spec =
@@ -178,19 +204,29 @@ trade-section-spec =
     (tie.spec
     Inv-loop
     μ-loop
-    keys-of-requires
-    no-trade-requires
+    no-trades-requires
     loop-holds
     goes-on-requires
-    trade-at-requires
-    enum-known-found
+    trade-row-requires
+    enum-known-read
     enum-told
-    found-number-requires
-    no-trade-requires-2
+    trade-number-requires
+    refused-requires
     returns
+    find-requires
+    place-or-first-requires
+    is-margined-requires
+    accrual-day-requires
+    mul-in-period
+    array-copy-out-in-period
+    in-period-requires
+    broken-requires
+    refused-requires-2
+    returns-2
+    trade-of-requires
     mul-rows
     array-set-from-rows
     add-count
     loop-less
     loop-again
-    returns-2)
+    returns-3)

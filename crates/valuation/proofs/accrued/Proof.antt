@@ -3,7 +3,8 @@ use Prim.Native.Nat.{_*_, _≤_}
 use borrow.Author.Needs.{needs}
 use native.Mathlib.Nat.{le-trans}
 use native.Mathlib.Omega.{arith}
-use Rattle.paper.proofs.Bounds.{mostAccrualProduct, mostAccrualDivisor, accrual-product-most, accrual-divisor-low, accrual-divisor-most}
+use Rattle.paper.specs.Bounds.{mostAccrualProduct, mostAccrualDivisor}
+use Rattle.paper.proofs.Bounds.{accrual-product-most, accrual-divisor-low, accrual-divisor-most}
 use Rattle.valuation.proofs.accrued.Statement.{statement}
 use Rattle.valuation.proofs.accrued.Tie as tie
 

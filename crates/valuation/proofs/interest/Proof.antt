@@ -8,8 +8,9 @@ use mir.Val.{toZ, ofZ}
 use mir.ValLaws.{toZ-ofZ}
 use Rattle.paper.specs.Rounding.{rounded}
 use Rattle.paper.specs.Valuation.{interest}
+use Rattle.paper.specs.Bounds.{mostDaysAmount, mostInterestProduct}
 use Rattle.paper.proofs.Sizes.{size-product}
-use Rattle.paper.proofs.Bounds.{mostDaysAmount, mostInterestProduct, days-amount-most, interest-product-most, interest-most}
+use Rattle.paper.proofs.Bounds.{days-amount-most, interest-product-most, interest-most}
 use Rattle.whole.proofs.Signs.{read-back, carried}
 use Rattle.valuation.proofs.interest.Statement.{statement}
 use Rattle.valuation.proofs.interest.Tie as tie

@@ -1,0 +1,188 @@
+-- `priorities::priority_section` meets its contract. The loop's invariant: whatever C rows the known classes are those of, the table
+-- has the rows above, and the section goes on from `at`. The measure is the bytes left up to `end`.
+use Prim.Native.Nat.{ℕ, _-_, _<_}
+use native.Mathlib.Omega.{arith}
+use mathlib.Core.Bool.{Bool, true}
+use mathlib.Core.List.{List, []}
+use mathlib.Core.Path.{_≡_, sym, ap, _∙_}
+use borrow.Author.Needs.{needs}
+use Rattle.paper.specs.Rows.{ClassRow}
+use Rattle.paper.specs.Refusals.{refused}
+use Rattle.fields.specs.Places.{Place, endedLength}
+use Rattle.tables.specs.Back.{paperClasses}
+use Rattle.tables.specs.declared.PriorityRow.{PriorityRow}
+use Rattle.sections.specs.Sections.{goesOn}
+use Rattle.sections.proofs.Loops.{goes-before}
+use Rattle.priorities.specs.Read.{priorityNumber}
+use Rattle.priorities.specs.Known.{knownOf, brokenOf}
+use Rattle.priorities.specs.Section.{prioritySection}
+use Rattle.priorities.proofs.Turns.{Turn, turn-start, turn-refused, Read, turn-row, turn-low, turn-broken, turn-free, turn-more, turn-ended}
+use Rattle.priorities.proofs.priority_section.Statement.{statement}
+use Rattle.priorities.proofs.priority_section.Tie as tie
+
+abbrev Inv-loop : tie.InvT-loop
+Inv-loop s from end known rows₀ count₀ at₀ rows count at = (cs : List ClassRow) → known ≡ knownOf cs → Turn cs s from rows count at
+
+abbrev μ-loop : tie.MeasureT-loop
+μ-loop s from end known rows₀ count₀ at₀ rows count at = end - at
+
+known-classes-requires : tie.Need-known-classes-requires Inv-loop μ-loop
+known-classes-requires c κs = search needs
+
+no-priorities-requires : tie.Need-no-priorities-requires Inv-loop μ-loop
+no-priorities-requires c κs = search needs
+
+loop-holds : tie.Need-loop-holds Inv-loop μ-loop
+loop-holds c cs e =
+    let a = c .before .before .before .before in
+    rw (c .before .no-priorities .ensures) (turn-start cs (a .args .s .now) (a .args .from) (omega arith))
+
+-- Where the function starts, and the C rows
+abbrev start : tie.At-loop Inv-loop μ-loop → tie.Start Inv-loop μ-loop
+start c = c .before .before .before .before .before
+
+abbrev classes : tie.At-loop Inv-loop μ-loop → List ClassRow
+classes c = paperClasses (start c .args .classes)
+
+-- The turn that a test of the loop begins
+turned : (c : tie.At-loop Inv-loop μ-loop) → Turn (classes c) (start c .args .s .now) (start c .args .from) (c .loop .rows) (c .loop .count) (c .loop .at)
+turned c = c .loop .inv (classes c) (c .before .before .before .known-classes .ensures)
+
+goes-on-requires : tie.Need-goes-on-requires Inv-loop μ-loop
+goes-on-requires c κs = (start c .pre .1, λ e. omega arith, λ e. omega arith)
+
+-- What the loop's test says, up to the last LF
+tested : (c : tie.After-goes-on Inv-loop μ-loop)
+    → let s = start (c .before) .args .s .now in goesOn s (c .before .loop .at) (endedLength s) 79 ≡ c .goes-on .result
+tested c =
+    let e = start (c .before) in
+    ap (λ (n : Place). goesOn (e .args .s .now) (c .before .loop .at) n 79) (sym (e .pre .1)) ∙ sym (c .goes-on .ensures)
+
+priority-row-requires : tie.Need-priority-row-requires Inv-loop μ-loop
+priority-row-requires c κs =
+    let e = start (c .before .before) in
+    (goes-before (e .args .s .now) (c .before .before .loop .at) (e .args .end) 79 (sym (c .before .goes-on .ensures) ∙ c .if1 .taken), e .pre .1)
+
+enum-known-read : tie.Need-enum-known-read Inv-loop μ-loop
+enum-known-read c = search needs
+
+enum-told : tie.Need-enum-told Inv-loop μ-loop
+enum-told c = search needs
+
+priority-number-requires : tie.Need-priority-number-requires Inv-loop μ-loop
+priority-number-requires c κs = search needs
+
+refused-requires : tie.Need-refused-requires Inv-loop μ-loop
+refused-requires c κs = search needs
+
+returns : tie.Need-returns Inv-loop μ-loop
+returns c =
+    let r = c .before .before .before .before in
+    let t = r .before in
+    let read = c .before .before .enum-told .given .1 in
+    c .refused .ensures
+    ∙ ap (λ (n : ℕ). prioritySection [] 0 (refused n (t .before .before .loop .count))) (c .before .priority-number .ensures ∙ ap priorityNumber read)
+    ∙ turn-refused (classes (t .before .before)) (turned (t .before .before)) (tested (t .before) ∙ t .if1 .taken) _ (sym (r .priority-row .ensures) ∙ read)
+
+-- The loop's test before a row that was read
+abbrev turn : tie.After-known Inv-loop μ-loop → tie.Then1 Inv-loop μ-loop
+turn c = c .before .before .before .before .before
+
+-- The row, as the code has it
+abbrev row : tie.After-known Inv-loop μ-loop → PriorityRow
+row c = c .before .before .read .given .0 .0
+
+-- Whatever C rows the known classes are those of, it is one of the paper's
+module _ (c : tie.After-known Inv-loop μ-loop) (cs : List ClassRow) (known : turn c .before .before .before .before .before .known-classes .result ≡ knownOf cs) where
+  abbrev inv : Turn cs (start (turn c .before .before) .args .s .now) (start (turn c .before .before) .args .from) (turn c .before .before .loop .rows) (turn c .before .before .loop .count) (turn c .before .before .loop .at)
+  inv = turn c .before .before .loop .inv cs known
+
+  abbrev on : goesOn (start (turn c .before .before) .args .s .now) (turn c .before .before .loop .at) (endedLength (start (turn c .before .before) .args .s .now)) 79 ≡ true
+  on = tested (turn c .before) ∙ turn c .if1 .taken
+
+  there : Read cs inv on (row c) (c .before .before .read .given .0 .1 .0)
+  there = turn-row cs inv on _ _ (sym (c .before .before .before .before .priority-row .ensures) ∙ c .before .before .read .given .1)
+
+  -- What judging it answers
+  judged : (number : ℕ) → number ≡ brokenOf (turn c .before .before .before .before .before .known-classes .result) (turn c .before .before .loop .count) (row c)
+      → number ≡ brokenOf (knownOf cs) (turn c .before .before .loop .count) (row c)
+  judged number e = e ∙ ap (λ (k : List Bool). brokenOf k (turn c .before .before .loop .count) (row c)) known
+
+-- The C rows of the table are such
+abbrev own : tie.After-known Inv-loop μ-loop → List ClassRow
+own c = classes (turn c .before .before)
+
+abbrev its-known : (c : tie.After-known Inv-loop μ-loop) → turn c .before .before .before .before .before .known-classes .result ≡ knownOf (own c)
+its-known c = turn c .before .before .before .before .before .known-classes .ensures
+
+broken-requires : tie.Need-broken-requires Inv-loop μ-loop
+broken-requires c κs = turn-low (own c) (inv c (own c) (its-known c)) (on c (own c) (its-known c)) (there c (own c) (its-known c))
+
+refused-requires-2 : tie.Need-refused-requires-2 Inv-loop μ-loop
+refused-requires-2 c κs = search needs
+
+returns-2 : tie.Need-returns-2 Inv-loop μ-loop
+returns-2 c =
+    let b = c .before .before in
+    let r = b .before in
+    let e = judged r (own r) (its-known r) (b .broken .result) (b .broken .ensures) in
+    c .refused2 .ensures ∙ ap (λ (n : ℕ). prioritySection [] 0 (refused n (turn r .before .before .loop .count))) e
+    ∙ turn-broken (own r) (inv r (own r) (its-known r)) (on r (own r) (its-known r)) (there r (own r) (its-known r)) (λ none. c .before .if2 .taken (e ∙ none))
+
+-- It breaks no rule, so there is room for it
+unbroken : (c : tie.Else2 Inv-loop μ-loop) (cs : List ClassRow) (known : turn (c .before .before) .before .before .before .before .before .known-classes .result ≡ knownOf cs)
+    → brokenOf (knownOf cs) (turn (c .before .before) .before .before .loop .count) (row (c .before .before)) ≡ 0
+unbroken c cs known = sym (judged (c .before .before) cs known (c .before .broken .result) (c .before .broken .ensures)) ∙ c .if2 .left
+
+free : (c : tie.Else2 Inv-loop μ-loop) → turn (c .before .before) .before .before .loop .count < 200
+free c =
+    let r = c .before .before in
+    turn-free (own r) (inv r (own r) (its-known r)) (on r (own r) (its-known r)) (there r (own r) (its-known r)) (unbroken c (own r) (its-known r))
+
+mul-rows : tie.Need-mul-rows Inv-loop μ-loop
+mul-rows c = omega (arith, free c)
+
+array-set-from-rows : tie.Need-array-set-from-rows Inv-loop μ-loop
+array-set-from-rows c = free c
+
+add-count : tie.Need-add-count Inv-loop μ-loop
+add-count c = omega (arith, free c)
+
+loop-less : tie.Need-loop-less Inv-loop μ-loop
+loop-less c =
+    let r = c .before .before in
+    omega (arith, there r (own r) (its-known r) .further, start (turn r .before .before) .pre .1)
+
+loop-again : tie.Need-loop-again Inv-loop μ-loop
+loop-again c cs known =
+    let r = c .before .before in
+    turn-more cs (inv r cs known) (on r cs known) (there r cs known) (unbroken c cs known)
+
+returns-3 : tie.Need-returns-3 Inv-loop μ-loop
+returns-3 c = turn-ended (classes (c .before .before)) (turned (c .before .before)) (tested (c .before) ∙ c .if1 .left)
+
+pub priority-section-spec : {M : Type 1} → statement M
+priority-section-spec =
+    tie.close
+    (tie.spec
+    Inv-loop
+    μ-loop
+    known-classes-requires
+    no-priorities-requires
+    loop-holds
+    goes-on-requires
+    priority-row-requires
+    enum-known-read
+    enum-told
+    priority-number-requires
+    refused-requires
+    returns
+    broken-requires
+    refused-requires-2
+    returns-2
+    mul-rows
+    array-set-from-rows
+    add-count
+    loop-less
+    loop-again
+    returns-3)

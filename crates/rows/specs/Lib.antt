@@ -1,5 +1,0 @@
-pub mod Fields
-pub mod Held
-pub mod Terms
-pub mod Reads
-pub mod Sections

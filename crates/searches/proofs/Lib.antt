@@ -1,5 +1,0 @@
-pub mod Places
-pub mod Ranks
-pub mod Codes
-pub mod Keys
-pub mod Rules

@@ -1,0 +1,4 @@
+pub mod Padded
+pub mod Numbers
+pub mod Backs
+pub mod Places

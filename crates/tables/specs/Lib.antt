@@ -1,0 +1,4 @@
+pub mod Padded
+pub mod Numbers
+pub mod Held
+pub mod Back

@@ -1,0 +1,201 @@
+// The tables of a sheet, as reading makes them and margining takes them. They hold values, and no place of a sheet: a code as one
+// number and a currency as another, dates as days, and what judging a row found out. Numbers are no wider than their range.
+ghost use mathlib.Core.Path.{_≡_};
+ghost use mathlib.Core.List.{[]};
+ghost use Rattle.tables.specs.Held.{noClass, noPriority, noSecurity, noTrade, noTables, classTable, priorityTable, currencyTable, securityTable, tradeTable, heldTables};
+
+pub type Code = u64; // a code as one number, which orders as its bytes do
+
+pub type Money = u64; // a currency as one number, which orders as its bytes do
+
+pub type Factor = u64; // ten-thousandths
+
+// A C row.
+pub struct ClassRow {
+    pub class: u64, // 1..40
+    pub kind: u64, // 0 government, 1 corporate, 2 inflation linked, 3 floating
+    pub border: u64, // ten-thousandths of a year; 0 for a kind that has none
+    pub deposit: Factor,
+}
+
+// The C rows.
+pub struct Classes {
+    pub count: usize, // rows
+    pub rows: [ClassRow; 40],
+}
+
+// An O row.
+pub struct PriorityRow {
+    pub first: u64, // class
+    pub second: u64, // class
+    pub factor: Factor,
+}
+
+// The O rows.
+pub struct Priorities {
+    pub count: usize, // rows
+    pub rows: [PriorityRow; 200],
+}
+
+// The currencies of the S rows, rising.
+pub struct Currencies {
+    pub count: usize, // currencies
+    pub numbers: [Money; 8],
+}
+
+// What valuing asks of an S row, with its class and the place of its currency among the rising ones.
+pub struct Security {
+    pub price: u32, // hundred-thousandths of a percent
+    pub coupon: u32, // hundred-thousandths of a percent a year
+    pub payments: u32, // a year
+    pub previous: u32, // coupon day, from 1 January 2000
+    pub next: u32, // coupon day, from 1 January 2000
+    pub class: u32, // 1..40
+    pub currency: u32, // its place among the currencies
+}
+
+// The S rows, their codes in a column of their own, with the highest number behind them, and their currencies.
+pub struct Securities {
+    pub count: usize, // rows
+    pub rows: [Security; 200],
+    pub codes: [Code; 256],
+    pub currencies: Currencies,
+}
+
+// What valuing asks of a T row, with the place of its security, whether it is margined, and its accrual day.
+pub struct Trade {
+    pub amount: u64, // cents
+    pub rate: i64, // ten-thousandths of a percent; 0 for cash
+    pub nominal: u32, // whole units
+    pub first: u32, // day, from 1 January 2000
+    pub accrual: u32, // day, from 1 January 2000
+    pub security: u8, // its place among the S rows
+    pub trade: u8, // 0 repo, 1 cash
+    pub side: u8, // 0 seller, 1 purchaser
+    pub margined: bool,
+}
+
+// The T rows.
+pub struct Trades {
+    pub count: usize, // rows
+    pub rows: [Trade; 500],
+}
+
+// All tables of a sheet.
+pub struct Tables {
+    pub classes: Classes,
+    pub priorities: Priorities,
+    pub securities: Securities,
+    pub trades: Trades,
+}
+
+// What stands where a table has no row.
+fn no_class() -> ClassRow
+    ensures { λ r. ⌜ r ≡ noClass ⌝ }
+{
+    ClassRow {
+        class: 0,
+        kind: 0,
+        border: 0,
+        deposit: 0,
+    }
+}
+
+fn no_priority() -> PriorityRow
+    ensures { λ r. ⌜ r ≡ noPriority ⌝ }
+{
+    PriorityRow {
+        first: 0,
+        second: 0,
+        factor: 0,
+    }
+}
+
+pub fn no_security() -> Security
+    ensures { λ r. ⌜ r ≡ noSecurity ⌝ }
+{
+    Security {
+        price: 0,
+        coupon: 0,
+        payments: 0,
+        previous: 0,
+        next: 0,
+        class: 0,
+        currency: 0,
+    }
+}
+
+fn no_trade() -> Trade
+    ensures { λ r. ⌜ r ≡ noTrade ⌝ }
+{
+    Trade {
+        amount: 0,
+        rate: 0,
+        nominal: 0,
+        first: 0,
+        accrual: 0,
+        security: 0,
+        trade: 0,
+        side: 0,
+        margined: false,
+    }
+}
+
+// Tables without rows.
+pub fn no_classes() -> Classes
+    ensures { λ r. ⌜ r ≡ classTable [] ⌝ }
+{
+    Classes {
+        count: 0,
+        rows: [no_class(); 40],
+    }
+}
+
+pub fn no_priorities() -> Priorities
+    ensures { λ r. ⌜ r ≡ priorityTable [] ⌝ }
+{
+    Priorities {
+        count: 0,
+        rows: [no_priority(); 200],
+    }
+}
+
+pub fn no_currencies() -> Currencies
+    ensures { λ r. ⌜ r ≡ currencyTable [] ⌝ }
+{
+    Currencies {
+        count: 0,
+        numbers: [0; 8],
+    }
+}
+
+pub fn no_securities() -> Securities
+    ensures { λ r. ⌜ r ≡ securityTable [] [] ⌝ }
+{
+    Securities {
+        count: 0,
+        rows: [no_security(); 200],
+        codes: [18446744073709551615; 256],
+        currencies: no_currencies(),
+    }
+}
+
+pub fn no_trades() -> Trades
+    ensures { λ r. ⌜ r ≡ tradeTable 0 [] [] ⌝ }
+{
+    Trades {
+        count: 0,
+        rows: [no_trade(); 500],
+    }
+}
+
+pub fn no_tables() -> Tables
+    ensures { λ r. ⌜ r ≡ heldTables noTables ⌝ }
+{
+    Tables {
+        classes: no_classes(),
+        priorities: no_priorities(),
+        securities: no_securities(),
+        trades: no_trades(),
+    }
+}
