@@ -3,7 +3,7 @@ use Prim.Native.Nat.{ℕ, zero, suc, _+_, _-_, _*_, _<_}
 use native.Mathlib.Nat.{lt-trans}
 use native.Mathlib.Omega.{arith}
 use mathlib.Core.Bool.{Bool, true, false}
-use mathlib.Core.List.{List, [], _∷_, map}
+use mathlib.Core.List.{List, [], _∷_}
 use mathlib.Core.Path.{_≡_, refl, sym, _∙_}
 use borrow.Author.Tests.{ltb-true, lt-ltb}
 use lib.Dec.{T, ltb}
@@ -19,7 +19,7 @@ use Rattle.paper.proofs.Fields.{code-form, code-parts}
 use Rattle.paper.proofs.Rules.{SecurityFacts, security-facts, each-holds}
 use Rattle.tables.specs.Numbers.{codeNumber, highest}
 use Rattle.tables.specs.Held.{codesOf}
-use Rattle.tables.proofs.Numbers.{Coded, final, more, code-coded, code-grows, code-number-low, code-number-before}
+use Rattle.tables.proofs.Numbers.{Coded, more, code-coded, code-grows, code-number-low, code-number-before}
 
 -- A code's number is above 0: it starts with a letter
 pub code-positive : (t : Code) → isCode t ≡ true → 0 < codeNumber t

@@ -8,7 +8,7 @@ use mathlib.Core.Option.{some}
 use mathlib.Core.Path.{_≡_, refl, sym, ap, ap₂, _∙_}
 use borrow.Author.Tests.{eqb-true, eqb-false, eq-eqb, ne-eqb, ltb-true, ltb-false, lt-ltb, le-ltb}
 use lib.Dec.{eqb, ltb}
-use lib.ListN.{length, take, replicate, length-append, length-map, length-replicate}
+use lib.ListN.{length, take, replicate, length-append, length-map}
 use Rattle.paper.specs.Units.{Currency}
 use Rattle.paper.specs.Lists.{given, firstThat}
 use Rattle.paper.specs.Text.{same, before, isCurrency}
@@ -18,7 +18,6 @@ use Rattle.paper.proofs.Lists.{never, Each, nil, cons, each-map}
 use Rattle.paper.proofs.Currencies.{has-currency, each-currency}
 use Rattle.tables.specs.Numbers.{currencyNumber, numberPlace}
 use Rattle.tables.specs.Held.{currencyTable}
-use Rattle.tables.specs.declared.Currencies.{Currencies}
 use Rattle.tables.proofs.Numbers.{currency-number-before, currency-number-same}
 use Rattle.securities.specs.Ranks.{rankedOf, putIn, insertedAt}
 use Rattle.securities.specs.declared.Standing.{Standing}

@@ -8,21 +8,21 @@ use mathlib.Core.Option.{Option, none, some, Option·getD}
 use mathlib.Core.Path.{_≡_, refl, sym, ap, ap₂, _∙_, subst}
 use lib.Dec.{T, eqb, ltb, ltb→lt}
 use lib.ListN.{length, take, set, replicate, length-reverse}
-use Rattle.paper.specs.Units.{Text, Date, Day, Currency, Class}
-use Rattle.paper.specs.Days.{isDay, day, dayOf}
-use Rattle.paper.specs.Lists.{between, every, given}
-use Rattle.paper.specs.Text.{before, isCode, isCurrency}
+use Rattle.paper.specs.Units.{Text, Number, Date, Day, Currency, Class}
+use Rattle.paper.specs.Days.{day, dayOf}
+use Rattle.paper.specs.Lists.{between}
+use Rattle.paper.specs.Text.{isCode, isCurrency}
 use Rattle.paper.specs.Rows as paper
 use Rattle.paper.specs.Currencies.{currencies, hasCurrency}
 use Rattle.paper.specs.Valuation.{classOf}
-use Rattle.paper.specs.Refusals.{refused, isDuration, securityKind}
+use Rattle.paper.specs.Refusals.{RowKind, refused, isDuration, securityKind}
 use Rattle.paper.specs.Tables.{hold}
 use Rattle.paper.proofs.Lists.{tests, both, bounds, Each, nil, cons, each-map}
 use Rattle.paper.proofs.Days.{day-below}
 use Rattle.paper.proofs.Currencies.{currencies-reverse}
 use Rattle.paper.proofs.Rules.{SecurityFacts, security-facts}
 use Rattle.fields.specs.Places.{Place, endedLength}
-use Rattle.tables.specs.Numbers.{codeNumber, currencyNumber, highest, numberPlace}
+use Rattle.tables.specs.Numbers.{codeNumber, currencyNumber, highest}
 use Rattle.tables.specs.Padded.{tableOf}
 use Rattle.tables.specs.Held.{noSecurity, heldSecurity, currencyTable, securityTable}
 use Rattle.tables.specs.Back.{paperClasses, ranged}
@@ -152,24 +152,30 @@ ranked-rows cs all (suc most) (s ∷ ss) free (cons t each) =
       currency = placed i;
     } ∷ rest i
 
+-- S rows, with the classes of a table
+abbrev kindWith : Classes → RowKind paper.SecurityRow
+kindWith classes = securityKind (paperClasses classes)
+
 -- After so many rows
-pub record Turn (cs : List paper.ClassRow) (sheet : Text) (from : Place) (rows : List Security) (codes money : List ℕ) (held : Currencies)
+pub record Turn (classes : Classes) (sheet : Text) (from : Place) (rows : List Security) (codes money : List ℕ) (held : Currencies)
     (last count : ℕ) (at : Place) : Type 0 where
+  pub within : ranged classes ≡ true
   pub above : List paper.SecurityRow
-  pub going : Going (securityKind cs) sheet from above count at
-  pub table : rows ≡ tableOf 200 noSecurity (unranked cs) (reverse above)
+  pub going : Going (kindWith classes) sheet from above count at
+  pub table : rows ≡ tableOf 200 noSecurity (unranked (paperClasses classes)) (reverse above)
   pub codes-are : codes ≡ tableOf 256 highest codeOf (reverse above)
   pub money-are : money ≡ tableOf 200 0 ownMoney (reverse above)
   pub held-are : held ≡ currencyTable (currencies above)
   pub few : length (currencies above) ≤ 8
   pub last-is : last ≡ lastOf above
 
-pub turn-start : (cs : List paper.ClassRow) (sheet : Text) (from : Place) → from ≤ endedLength sheet
-    → Turn cs sheet from (securityTable [] [] .rows) (securityTable [] [] .codes) (tableOf 200 0 ownMoney []) (securityTable [] [] .currencies) 0 0 from
-turn-start cs sheet from h =
+pub turn-start : (classes : Classes) (sheet : Text) (from : Place) → ranged classes ≡ true → from ≤ endedLength sheet
+    → Turn classes sheet from (securityTable [] [] .rows) (securityTable [] [] .codes) (tableOf 200 0 ownMoney []) (securityTable [] [] .currencies) 0 0 from
+turn-start classes sheet from within h =
     record {
+      within = within;
       above = [];
-      going = going-start (securityKind cs) sheet from h;
+      going = going-start (kindWith classes) sheet from h;
       table = refl;
       codes-are = refl;
       money-are = refl;
@@ -182,8 +188,8 @@ turn-start cs sheet from h =
 abbrev made : Section → Securities → SecuritySection
 made section table = record { section = section; table = table }
 
-abbrev pub result : List paper.ClassRow → Text → Place → SecuritySection
-result cs sheet from = loops.result (securityKind cs) sheet from made (securityTable cs)
+abbrev pub result : Classes → Text → Place → SecuritySection
+result classes sheet from = loops.result (kindWith classes) sheet from made (securityTable (paperClasses classes))
 
 -- Where the currency of a row stands among those held, and the class that is found for it
 abbrev pub standingIn : Currencies → SecurityRow → Standing
@@ -194,155 +200,174 @@ classFor t s =
     let all = columnsOf (t .rows) in
     classIn (take (t .count) (all .kinds)) (take (t .count) (all .borders)) (take (t .count) (all .numbers)) (s .kind) (s .duration)
 
--- A row below rows that keep the rules
-module _ (classes : Classes) (within : ranged classes ≡ true) (above : List paper.SecurityRow) (facts : Each SecurityFacts above)
-    (few : length (currencies above) ≤ 8) (s : paper.SecurityRow) (form : Formed s) (sheet : Text) (at : Place) where
-  abbrev cs : List paper.ClassRow
-  cs = paperClasses classes
-
-  -- Its class is the paper's
-  its-class : Classed (classFor classes (heldRow sheet at s)) (classOf cs (s .kind) (s .duration))
-  its-class = table-classed (s .kind) (s .duration) (form .duration) classes within
-
+-- A row below others, as the paper has it and as it is held
+module _ (above : List paper.SecurityRow) (facts : Each SecurityFacts above) (few : length (currencies above) ≤ 8) (s : paper.SecurityRow) (form : Formed s)
+    (sheet : Text) (at : Place) where
   -- Its currency stands where its number does
   its-standing : standingIn (currencyTable (currencies above)) (heldRow sheet at s) ≡ rankedOf (moneyOf above) (ownMoney s)
   its-standing = ap (λ (ns : List ℕ). rankedOf ns (ownMoney s)) (table-front 8 0 currencyNumber (currencies above) few)
 
-  -- It is judged as the paper judges it
-  alike : brokenOf (length above) (standingIn (currencyTable (currencies above)) (heldRow sheet at s) .there) (length (currencies above)) (lastOf above) (codeOf s) (classFor classes (heldRow sheet at s))
-      ≡ broken (securityKind cs .others above s)
-  alike =
-      let eight = ap (λ (s : Standing). s .there) its-standing ∙ rank-has above (currencied facts) (s .currency) (form .currency) in
-      let nine = last-before above facts s (form .code) in
-      let eleven = class-given its-class in
-      λ i. broken ((8, ltb (length above) 200 && (eight i || ltb (length (currencies above)) 8)) ∷ (9, nine i) ∷ (11, eleven i) ∷ [])
+  module _ (classes : Classes) (within : ranged classes ≡ true) where
+    -- Its class is the paper's
+    its-class : Classed (classFor classes (heldRow sheet at s)) (classOf (paperClasses classes) (s .kind) (s .duration))
+    its-class = table-classed (s .kind) (s .duration) (form .duration) classes within
 
-module _ (classes : Classes) (within : ranged classes ≡ true) {sheet : Text} {from : Place} {rows : List Security} {codes money : List ℕ}
-    {held : Currencies} {last count : ℕ} {at : Place} (t : Turn (paperClasses classes) sheet from rows codes money held last count at) where
-  abbrev its-classes : List paper.ClassRow
-  its-classes = paperClasses classes
+    -- It is judged as the paper judges it
+    alike : brokenOf (length above) (standingIn (currencyTable (currencies above)) (heldRow sheet at s) .there) (length (currencies above)) (lastOf above) (codeOf s) (classFor classes (heldRow sheet at s))
+        ≡ broken (kindWith classes .others above s)
+    alike =
+        let eight = ap (λ (s : Standing). s .there) its-standing ∙ rank-has above (currencied facts) (s .currency) (form .currency) in
+        let nine = last-before above facts s (form .code) in
+        let eleven = class-given its-class in
+        λ i. broken ((8, ltb (length above) 200 && (eight i || ltb (length (currencies above)) 8)) ∷ (9, nine i) ∷ (11, eleven i) ∷ [])
 
-  facts : Each SecurityFacts (t .above)
-  facts = kept-facts (paperClasses classes) (t .going .kept)
+module _ {classes : Classes} {sheet : Text} {from : Place} {rows : List Security} {codes money : List ℕ} {held : Currencies} {last count : ℕ} {at : Place} where
+  module _ (t : Turn classes sheet from rows codes money held last count at) where
+    facts : Each SecurityFacts (t .above)
+    facts = kept-facts (paperClasses classes) (t .going .kept)
 
-  module _ (on : goesOn sheet at (endedLength sheet) 83 ≡ true) where
+    -- No more than the tables have places
+    pub turn-most : (count ≤ 200) × (held .count ≤ 8)
+    turn-most = (omega (arith, t .going .counted, kept-most (paperClasses classes) (t .going .kept)), rw (t .held-are) (t .few))
+
     -- A line that is refused by itself refuses the section
-    pub turn-refused : (number : ℕ) → securityRead sheet at ≡ reads.Refused number
-        → securitySection [] [] 0 (refused number count) ≡ result (paperClasses classes) sheet from
-    turn-refused number e =
-        result-refused (securityKind (paperClasses classes)) sheet from made (securityTable (paperClasses classes)) number count
-        (line-refused (securityKind (paperClasses classes)) (λ above c. refl) 83 refl words (heldRow sheet at) (t .going) on number e)
+    pub turn-refused : goesOn sheet at (endedLength sheet) 83 ≡ true → (number : ℕ) → securityRead sheet at ≡ reads.Refused number
+        → securitySection [] [] 0 (refused number count) ≡ result classes sheet from
+    turn-refused on number e =
+        result-refused (kindWith classes) sheet from made (securityTable (paperClasses classes)) number count
+        (line-refused (kindWith classes) (λ above c. refl) 83 refl words (heldRow sheet at) (t .going) on number e)
 
     -- A row that was read
-    abbrev pub Read : SecurityRow → Place → Type 0
-    Read = LineRow (securityKind (paperClasses classes)) (λ above c. refl) 83 refl words (heldRow sheet at) (t .going) on
+    pub record Read (s : SecurityRow) (next : Place) : Type 0 where
+      on : goesOn sheet at (endedLength sheet) 83 ≡ true
+      line : LineRow (kindWith classes) (λ above c. refl) 83 refl words (heldRow sheet at) (t .going) on s next
 
-    pub turn-row : (s : SecurityRow) (next : Place) → securityRead sheet at ≡ reads.Row s next → Read s next
-    turn-row = line-row (securityKind (paperClasses classes)) (λ above c. refl) 83 refl words (heldRow sheet at) (t .going) on
+    pub turn-row : goesOn sheet at (endedLength sheet) 83 ≡ true → (s : SecurityRow) (next : Place) → securityRead sheet at ≡ reads.Row s next → Read s next
+    turn-row on s next e = record { on = on; line = line-row (kindWith classes) (λ above c. refl) 83 refl words (heldRow sheet at) (t .going) on s next e }
 
-    module _ {s : SecurityRow} {next : Place} (r : Read s next) where
-      -- It is judged as the paper judges it
-      same : brokenOf count (standingIn held s .there) (held .count) last (s .number) (classFor classes s) ≡ broken (securityKind (paperClasses classes) .others (t .above) (r .row-is))
-      same =
-          rw (t .held-are, t .going .counted, t .last-is, sym (r .held-is))
-          (alike classes within (t .above) facts (t .few) (r .row-is) (formed (r .row-is) (r .own)) sheet at)
+    -- The end of the section
+    pub turn-ended : goesOn sheet at (endedLength sheet) 83 ≡ false
+        → made (record { refusal = 0; count = count; next = at })
+        (record { count = count; rows = withRank (take (held .count) (held .numbers)) (take count money) rows; codes = codes; currencies = held })
+        ≡ result classes sheet from
+    turn-ended off =
+        let ss = reverse (t .above) in
+        let many : count ≡ length ss = t .going .counted ∙ sym (length-reverse (t .above)) in
+        let all : currencies (t .above) ≡ currencies ss = sym (currencies-reverse (t .above)) in
+        let held-is : held ≡ currencyTable (currencies ss) = t .held-are ∙ ap currencyTable all in
+        let numbers : take (held .count) (held .numbers) ≡ map currencyNumber (currencies ss) = rw held-is (table-front 8 0 currencyNumber (currencies ss) (rw all at (t .few))) in
+        let own : take count money ≡ map ownMoney ss = rw (t .money-are, many) (table-front 200 0 ownMoney ss (omega (arith, turn-most .0))) in
+        let each = subst (λ (ds : List Currency). Each (λ s. rankedOf (map currencyNumber ds) (ownMoney s) .there ≡ true) ss) all (each-reverse (each-there (t .above) (currencied facts))) in
+        let ranks : withRank (take (held .count) (held .numbers)) (take count money) rows ≡ tableOf 200 noSecurity (heldSecurity (paperClasses classes) (currencies ss)) ss =
+        rw (numbers, own, t .table) (ranked-rows (paperClasses classes) (currencies ss) 200 ss (replicate 200 noSecurity) each)
+        in
+        result-ended (kindWith classes) sheet from made (securityTable (paperClasses classes)) (t .going)
+        (going-ended (kindWith classes) (λ above c. refl) 83 refl (t .going) off) _
+        (λ i. record { count = many i; rows = ranks i; codes = t .codes-are i; currencies = held-is i })
 
-      -- It fits the table
-      pub turn-small : Small s
-      turn-small = rw (sym (r .held-is)) (small sheet at (r .row-is) (r .own))
+  module _ {t : Turn classes sheet from rows codes money held last count at} {s : SecurityRow} {next : Place} (r : Read t s next) where
+    -- The paper's row
+    abbrev row : paper.SecurityRow
+    row = r .line .row-is
 
-      classed : Classed (classFor classes s) (classOf (paperClasses classes) (r .row-is .kind) (r .row-is .duration))
-      classed = rw (sym (r .held-is)) (its-class classes within (t .above) facts (t .few) (r .row-is) (formed (r .row-is) (r .own)) sheet at)
+    form : Formed row
+    form = formed row (r .line .own)
 
-      pub turn-class : classFor classes s ≤ 40
-      turn-class = class-most classed
+    held-row : heldRow sheet at row ≡ s
+    held-row = r .line .held-is
 
-      -- A rule that it breaks refuses the section
-      pub turn-broken : (number : ℕ) → number ≡ brokenOf count (standingIn held s .there) (held .count) last (s .number) (classFor classes s) → (number ≡ 0 → ⊥)
-          → securitySection [] [] 0 (refused number count) ≡ result (paperClasses classes) sheet from
-      turn-broken number is other =
-          ap (λ (n : ℕ). securitySection [] [] 0 (refused n count)) (is ∙ same)
-          ∙ result-refused (securityKind (paperClasses classes)) sheet from made (securityTable (paperClasses classes)) _ count (r .refuses (λ none. other (is ∙ same ∙ none)))
+    each-money : Each Currencied (t .above)
+    each-money = currencied (facts t)
 
-      -- Where it breaks none the section goes on
-      module _ (none : brokenOf count (standingIn held s .there) (held .count) last (s .number) (classFor classes s) ≡ 0) where
-        on-with-it : Going (securityKind (paperClasses classes)) sheet from (r .row-is ∷ t .above) (count + 1) next
-        on-with-it = r .goes (sym same ∙ none)
+    -- It fits the table
+    pub turn-small : Small s
+    turn-small = subst Small held-row (small sheet at row (r .line .own))
 
-        pub turn-free : count < 200
-        turn-free = omega (arith, t .going .counted, kept-most (paperClasses classes) (on-with-it .kept))
+    classed : Classed (classFor classes s) (classOf (paperClasses classes) (row .kind) (row .duration))
+    classed =
+        subst (λ (s : SecurityRow). Classed (classFor classes s) (classOf (paperClasses classes) (row .kind) (row .duration))) held-row
+        (its-class (t .above) (facts t) (t .few) row form sheet at classes (t .within))
 
-        -- The currencies held, with its own
-        module _ (st : Standing) (stands : st ≡ standingIn held s) where
-          form : Formed (r .row-is)
-          form = formed (r .row-is) (r .own)
+    pub turn-class : classFor classes s ≤ 40
+    turn-class = class-most classed
 
-          standing-is : rankedOf (moneyOf (t .above)) (ownMoney (r .row-is)) ≡ st
-          standing-is =
-              sym (stands ∙ rw (t .held-are, sym (r .held-is)) (its-standing classes within (t .above) facts (t .few) (r .row-is) form sheet at))
+    -- The next line is further on
+    pub turn-further : (at < next) × (next ≤ endedLength sheet)
+    turn-further = r .line .further
 
-          there-is : rankedOf (moneyOf (t .above)) (ownMoney (r .row-is)) .there ≡ st .there
-          there-is = ap (λ (s : Standing). s .there) standing-is
+    -- It is judged as the paper judges it
+    abbrev pub judgment : Number
+    judgment = brokenOf count (standingIn held s .there) (held .count) last (s .number) (classFor classes s)
 
-          pub turn-room : st .there ≡ false → held .count < 8
-          turn-room e =
-              let has = sym (rank-has (t .above) (currencied facts) (r .row-is .currency) (form .currency)) ∙ there-is ∙ e in
-              rw (t .held-are) (ltb→lt (length (currencies (t .above))) 8 (rw has at (eighth (paperClasses classes) (on-with-it .kept))))
+    same : judgment ≡ broken (kindWith classes .others (t .above) row)
+    same =
+        let judge : Currencies → ℕ → ℕ → SecurityRow → Number = λ held count last s.
+        brokenOf count (standingIn held s .there) (held .count) last (s .number) (classFor classes s)
+        in
+        (λ i. judge (t .held-are i) (t .going .counted i) (t .last-is i) (sym held-row i))
+        ∙ alike (t .above) (facts t) (t .few) row form sheet at classes (t .within)
 
-          pub turn-known : st .there ≡ true → held ≡ currencyTable (currencies (r .row-is ∷ t .above))
-          turn-known e = t .held-are ∙ ap currencyTable (sym (money-known (t .above) (currencied facts) (r .row-is) (form .currency) (there-is ∙ e)))
+    -- A rule that it breaks refuses the section
+    pub turn-broken : (number : ℕ) → number ≡ judgment → (number ≡ 0 → ⊥) → securitySection [] [] 0 (refused number count) ≡ result classes sheet from
+    turn-broken number is other =
+        ap (λ (n : ℕ). securitySection [] [] 0 (refused n count)) (is ∙ same)
+        ∙ result-refused (kindWith classes) sheet from made (securityTable (paperClasses classes)) _ count (r .line .refuses (λ none. other (is ∙ same ∙ none)))
 
-          pub turn-new : st .there ≡ false → insertedAt held (st .rank) (s .currency) ≡ currencyTable (currencies (r .row-is ∷ t .above))
-          turn-new e =
-              rw (t .held-are, sym standing-is, sym (r .held-is)) (money-new (t .above) (currencied facts) (r .row-is) (form .currency) (there-is ∙ e))
+    -- Where it breaks none the section goes on
+    module _ (none : judgment ≡ 0) where
+      goes : Going (kindWith classes) sheet from (row ∷ t .above) (count + 1) next
+      goes = r .line .goes (sym same ∙ none)
 
-          few-more : length (currencies (r .row-is ∷ t .above)) ≤ 8
-          few-more = go (st .there) refl
-            where
-              go : (b : Bool) → st .there ≡ b → length (currencies (r .row-is ∷ t .above)) ≤ 8
-              go true e = rw (money-known (t .above) (currencied facts) (r .row-is) (form .currency) (there-is ∙ e)) (t .few)
-              go false e =
-                  omega (arith, money-longer (t .above) (currencied facts) (r .row-is) (form .currency) (there-is ∙ e), turn-room e, ap (λ (c : Currencies). c .count) (t .held-are))
+      pub turn-free : count < 200
+      turn-free = omega (arith, t .going .counted, kept-most (paperClasses classes) (goes .kept))
 
-          pub turn-more : (more : Currencies) → more ≡ currencyTable (currencies (r .row-is ∷ t .above))
-              → Turn (paperClasses classes) sheet from (set rows count (securityOf s (classFor classes s))) (set codes count (s .number)) (set money count (s .currency)) more (s .number) (count + 1) next
-          turn-more more is =
-              record {
-                above = r .row-is ∷ t .above;
-                going = on-with-it;
-                table =
-                    ap (set rows count) (ap₂ securityOf (sym (r .held-is)) (class-is classed))
-                    ∙ table-more 200 noSecurity (unranked (paperClasses classes)) (t .above) (t .table) (t .going .counted) (r .row-is) turn-free;
-                codes-are =
-                    ap (λ (s : SecurityRow). set codes count (s .number)) (sym (r .held-is))
-                    ∙ table-more 256 highest codeOf (t .above) (t .codes-are) (t .going .counted) (r .row-is) (omega (arith, turn-free));
-                money-are =
-                    ap (λ (s : SecurityRow). set money count (s .currency)) (sym (r .held-is))
-                    ∙ table-more 200 0 ownMoney (t .above) (t .money-are) (t .going .counted) (r .row-is) turn-free;
-                held-are = is;
-                few = few-more;
-                last-is = ap (λ (s : SecurityRow). s .number) (sym (r .held-is));
-              }
+      -- The currencies held, with its own
+      module _ (st : Standing) (stands : st ≡ standingIn held s) where
+        standing-is : rankedOf (moneyOf (t .above)) (ownMoney row) ≡ st
+        standing-is =
+            sym (stands ∙ (λ i. standingIn (t .held-are i) (sym held-row i)) ∙ its-standing (t .above) (facts t) (t .few) row form sheet at)
 
-  pub turn-most : (count ≤ 200) × (held .count ≤ 8)
-  turn-most = (omega (arith, t .going .counted, kept-most (paperClasses classes) (t .going .kept)), rw (t .held-are) (t .few))
+        there-is : rankedOf (moneyOf (t .above)) (ownMoney row) .there ≡ st .there
+        there-is = ap (λ (s : Standing). s .there) standing-is
 
-  -- The end of the section
-  pub turn-ended : goesOn sheet at (endedLength sheet) 83 ≡ false
-      → made (record { refusal = 0; count = count; next = at })
-      (record { count = count; rows = withRank (take (held .count) (held .numbers)) (take count money) rows; codes = codes; currencies = held })
-      ≡ result (paperClasses classes) sheet from
-  turn-ended off =
-      let ss = reverse (t .above) in
-      let many : count ≡ length ss = t .going .counted ∙ sym (length-reverse (t .above)) in
-      let all : currencies ss ≡ currencies (t .above) = currencies-reverse (t .above) in
-      let numbers : take (held .count) (held .numbers) ≡ map currencyNumber (currencies ss) = rw (t .held-are, all) (table-front 8 0 currencyNumber (currencies (t .above)) (t .few)) in
-      let own : take count money ≡ map ownMoney ss = rw (t .money-are, many) (table-front 200 0 ownMoney ss (omega (arith, turn-most .0))) in
-      let each = subst (λ (ds : List Currency). Each (λ s. rankedOf (map currencyNumber ds) (ownMoney s) .there ≡ true) ss) (sym all) (each-reverse (each-there (t .above) (currencied facts))) in
-      let ranks : withRank (take (held .count) (held .numbers)) (take count money) rows ≡ tableOf 200 noSecurity (heldSecurity (paperClasses classes) (currencies ss)) ss =
-      rw (numbers, own, t .table) (ranked-rows (paperClasses classes) (currencies ss) 200 ss (replicate 200 noSecurity) each)
-      in
-      let held-is : held ≡ currencyTable (currencies ss) = t .held-are ∙ ap currencyTable (sym all) in
-      result-ended (securityKind (paperClasses classes)) sheet from made (securityTable (paperClasses classes)) (t .going)
-      (going-ended (securityKind (paperClasses classes)) (λ above c. refl) 83 refl (t .going) off) _
-      (λ i. record { count = many i; rows = ranks i; codes = t .codes-are i; currencies = held-is i })
+        pub turn-room : st .there ≡ false → held .count < 8
+        turn-room e =
+            let has : hasCurrency (t .above) (row .currency) ≡ false = sym (rank-has (t .above) each-money (row .currency) (form .currency)) ∙ there-is ∙ e in
+            rw (t .held-are) (ltb→lt (length (currencies (t .above))) 8 (rw has at (eighth (paperClasses classes) (goes .kept))))
+
+        pub turn-known : st .there ≡ true → held ≡ currencyTable (currencies (row ∷ t .above))
+        turn-known e = t .held-are ∙ ap currencyTable (sym (money-known (t .above) each-money row (form .currency) (there-is ∙ e)))
+
+        pub turn-new : st .there ≡ false → insertedAt held (st .rank) (s .currency) ≡ currencyTable (currencies (row ∷ t .above))
+        turn-new e =
+            (λ i. insertedAt (t .held-are i) (sym standing-is i .rank) (sym held-row i .currency))
+            ∙ money-new (t .above) each-money row (form .currency) (there-is ∙ e)
+
+        few-more : length (currencies (row ∷ t .above)) ≤ 8
+        few-more = go (st .there) refl
+          where
+            go : (b : Bool) → st .there ≡ b → length (currencies (row ∷ t .above)) ≤ 8
+            go true e = rw (money-known (t .above) each-money row (form .currency) (there-is ∙ e)) (t .few)
+            go false e =
+                omega (arith, money-longer (t .above) each-money row (form .currency) (there-is ∙ e), turn-room e, ap (λ (c : Currencies). c .count) (t .held-are))
+
+        pub turn-more : (more : Currencies) → more ≡ currencyTable (currencies (row ∷ t .above))
+            → Turn classes sheet from (set rows count (securityOf s (classFor classes s))) (set codes count (s .number)) (set money count (s .currency)) more (s .number) (count + 1) next
+        turn-more more is =
+            record {
+              within = t .within;
+              above = row ∷ t .above;
+              going = goes;
+              table =
+                  ap₂ (λ (s : SecurityRow) (class : Class). set rows count (securityOf s class)) (sym held-row) (class-is classed)
+                  ∙ table-more 200 noSecurity (unranked (paperClasses classes)) (t .above) (t .table) (t .going .counted) row turn-free;
+              codes-are =
+                  ap (λ (s : SecurityRow). set codes count (s .number)) (sym held-row)
+                  ∙ table-more 256 highest codeOf (t .above) (t .codes-are) (t .going .counted) row (omega (arith, turn-free));
+              money-are =
+                  ap (λ (s : SecurityRow). set money count (s .currency)) (sym held-row)
+                  ∙ table-more 200 0 ownMoney (t .above) (t .money-are) (t .going .counted) row turn-free;
+              held-are = is;
+              few = few-more;
+              last-is = ap (λ (s : SecurityRow). s .number) (sym held-row);
+            }

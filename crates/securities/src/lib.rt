@@ -262,14 +262,13 @@ fn broken(
     ensures { λ r. ⌜ r ≡ brokenOf count there currencies last number class ⌝ }
 {
     let room = (count < 200) & (there | (currencies < 8));
-    if room {
-        if number <= last {
-            return 9;
-        }
-        if class == 0 { 11 } else { 0 }
-    } else {
-        8
+    if !room {
+        return 8;
     }
+    if number <= last {
+        return 9;
+    }
+    if class == 0 { 11 } else { 0 }
 }
 
 // What the table keeps of a row. The place of its currency is given when all rows are read.

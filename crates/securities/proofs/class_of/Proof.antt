@@ -1,10 +1,10 @@
 -- `securities::class_of` meets its contract. The loop's invariant: the class is the one found from `i` on. The measure is the
 -- classes left.
-use Prim.Native.Nat.{ℕ, suc, _+_, _-_, _≤_, _<_}
+use Prim.Native.Nat.{ℕ, _+_, _-_, _≤_, _<_}
 use native.Mathlib.Omega.{arith}
-use mathlib.Core.Bool.{Bool, true, false, _&&_}
+use mathlib.Core.Bool.{true, false, _&&_}
 use mathlib.Core.List.{List}
-use mathlib.Core.Path.{_≡_, refl, sym, ap, _∙_}
+use mathlib.Core.Path.{_≡_, refl, sym, _∙_}
 use lib.Dec.{eqb, leb}
 use lib.ListN.{length, getD, take}
 use lib.Seq.{slice}
@@ -13,8 +13,6 @@ use Rattle.fields.proofs.Parts.{part-step, part-empty}
 use Rattle.securities.specs.Classes.{classIn}
 use Rattle.securities.proofs.class_of.Statement.{statement}
 use Rattle.securities.proofs.class_of.Tie as tie
-use Rattle.securities.proofs.class_of.Reads as reads
-use Rattle.securities.proofs.class_of.Lts as lts
 
 module _ (kinds : List ℕ) (borders : List Duration) (numbers : List Class) (count kind : ℕ) (duration : Duration) where
   -- The class, looked for from so many on

@@ -4,7 +4,7 @@ use Prim.Native.Nat.{ℕ, _+_, _-_, _≤_, _<_}
 use native.Mathlib.Numerals.{add-one}
 use native.Mathlib.Omega.{arith}
 use mathlib.Core.List.{List, map}
-use mathlib.Core.Path.{_≡_, refl, sym, ap, _∙_}
+use mathlib.Core.Path.{_≡_, refl, sym, _∙_}
 use borrow.Author.Needs.{needs}
 use lib.ListN.{length, getD, take, set, length-map}
 use lib.Seq.{take-all}
@@ -16,8 +16,6 @@ use Rattle.securities.specs.Over.{over}
 use Rattle.securities.proofs.Over.{over-more, over-all}
 use Rattle.securities.proofs.columns_of.Statement.{statement}
 use Rattle.securities.proofs.columns_of.Tie as tie
-use Rattle.securities.proofs.columns_of.Reads as reads
-use Rattle.securities.proofs.columns_of.Lts as lts
 
 -- A column written over with so many rows
 abbrev column : (ClassRow → ℕ) → List ClassRow → ℕ → List ℕ → List ℕ

@@ -1,6 +1,6 @@
 -- `securities::inserted` meets its contract. The loop's invariant: putting what is moved in at `i` gives what is to be given. The
 -- measure is the places left.
-use Prim.Native.Nat.{ℕ, zero, suc, _+_, _-_, _≤_, _<_}
+use Prim.Native.Nat.{ℕ, zero, suc, _+_, _-_, _≤_}
 use native.Mathlib.Numerals.{add-one}
 use native.Mathlib.Omega.{arith}
 use mathlib.Core.List.{List, [], _∷_}
@@ -9,8 +9,6 @@ use lib.ListN.{length, getD, set, length-set, length-map}
 use Rattle.securities.specs.Ranks.{putIn}
 use Rattle.securities.proofs.inserted.Statement.{statement}
 use Rattle.securities.proofs.inserted.Tie as tie
-use Rattle.securities.proofs.inserted.Reads as reads
-use Rattle.securities.proofs.inserted.Lts as lts
 
 -- The one that stood there is moved on
 moved-on : (ns : List ℕ) (i own : ℕ) → putIn i own ns ≡ putIn (i + 1) (getD ns i 0) (set ns i own)

@@ -15,8 +15,6 @@ use Rattle.securities.specs.Ranks.{rankedOf}
 use Rattle.securities.specs.declared.Standing.{Standing}
 use Rattle.securities.proofs.ranked.Statement.{statement}
 use Rattle.securities.proofs.ranked.Tie as tie
-use Rattle.securities.proofs.ranked.Reads as reads
-use Rattle.securities.proofs.ranked.Lts as lts
 
 module _ (own : ℕ) where
   -- Behind those that are below it, and before one that is not, whether that one is it decides

@@ -1,7 +1,7 @@
 -- `securities::security_row` meets its contract: its nine fields are read, and then joined.
 use native.Mathlib.Omega.{arith}
 use mathlib.Core.List.{[]}
-use mathlib.Core.Path.{_≡_, sym, _∙_}
+use mathlib.Core.Path.{sym, _∙_}
 use borrow.Author.Needs.{needs}
 use Rattle.paper.specs.Refusals.{securityKind}
 use Rattle.fields.specs.Places.{lineAt}

@@ -8,7 +8,6 @@ use mathlib.Core.Path.{_≡_, sym, ap, ap₂, _∙_}
 use borrow.Author.Needs.{needs}
 use borrow.Author.Tests.{not-true, not-false}
 use lib.ListN.{take}
-use Rattle.tables.specs.Back.{paperClasses}
 use Rattle.paper.specs.Refusals.{refused}
 use Rattle.fields.specs.Places.{Place, endedLength}
 use Rattle.sections.specs.Sections.{goesOn}
@@ -18,15 +17,13 @@ use Rattle.securities.specs.Classes.{classIn}
 use Rattle.securities.specs.declared.Columns.{Columns}
 use Rattle.securities.specs.declared.Standing.{Standing}
 use Rattle.securities.specs.Section.{brokenOf, securitySection}
-use Rattle.securities.proofs.Turns.{Turn, turn-start, standingIn, classFor, turn-refused, Read, turn-row, turn-small, turn-class, turn-broken, turn-free, turn-room, turn-known, turn-new, turn-more, turn-most, turn-ended}
+use Rattle.securities.proofs.Turns.{Turn, turn-start, classFor, turn-refused, Read, turn-row, turn-small, turn-class, turn-further, judgment, turn-broken, turn-free, turn-room, turn-known, turn-new, turn-more, turn-most, turn-ended}
 use Rattle.securities.proofs.security_section.Statement.{statement}
 use Rattle.securities.proofs.security_section.Tie as tie
-use Rattle.securities.proofs.security_section.Reads as reads
-use Rattle.securities.proofs.security_section.Lts as lts
 
 abbrev Inv-loop : tie.InvT-loop
 Inv-loop s years from end classes kinds borders numbers rows₀ codes₀ money₀ currencies₀ last₀ count₀ at₀ rows codes money currencies last count at =
-    Turn (paperClasses classes) s from rows codes money currencies last count at
+    Turn classes s from rows codes money currencies last count at
 
 abbrev μ-loop : tie.MeasureT-loop
 μ-loop s years from end classes kinds borders numbers rows₀ codes₀ money₀ currencies₀ last₀ count₀ at₀ rows codes money currencies last count at =
@@ -41,7 +38,7 @@ no-securities-requires c κs = search needs
 loop-holds : tie.Need-loop-holds Inv-loop μ-loop
 loop-holds c =
     let e = c .before .before .before .before .before .before .before .before .before in
-    rw (c .before .before .before .no-securities .ensures) (turn-start (paperClasses (e .args .classes)) (e .args .s .now) (e .args .from) (rw (e .pre .1) at (e .pre .0)))
+    rw (c .before .before .before .no-securities .ensures) (turn-start (e .args .classes) (e .args .s .now) (e .args .from) (e .pre .4) (rw (e .pre .1) at (e .pre .0)))
 
 -- Back to the start, and to the classes' columns
 abbrev start : tie.At-loop Inv-loop μ-loop → tie.Start Inv-loop μ-loop
@@ -87,7 +84,7 @@ returns c =
     let read = c .before .before .enum-told .given .1 in
     c .refused .ensures
     ∙ ap (λ (n : ℕ). securitySection [] [] 0 (refused n (l .loop .count))) (c .before .security-number .ensures ∙ ap securityNumber read)
-    ∙ turn-refused (start l .args .classes) (start l .pre .4) (l .loop .inv) (tested (t .before) ∙ t .if1 .taken) _ (sym (r .security-row .ensures) ∙ read)
+    ∙ turn-refused (l .loop .inv) (tested (t .before) ∙ t .if1 .taken) _ (sym (r .security-row .ensures) ∙ read)
 
 -- A row that was read is one of the paper's
 abbrev turn : tie.After-known-told Inv-loop μ-loop → tie.Then1 Inv-loop μ-loop
@@ -97,12 +94,12 @@ abbrev loop : tie.After-known-told Inv-loop μ-loop → tie.At-loop Inv-loop μ-
 loop c = turn c .before .before
 
 there : (c : tie.After-known-told Inv-loop μ-loop)
-    → Read (start (loop c) .args .classes) (start (loop c) .pre .4) (loop c .loop .inv) (tested (turn c .before) ∙ turn c .if1 .taken) (c .before .read .given .0 .0) (c .before .read .given .0 .1 .0)
+    → Read (loop c .loop .inv) (c .before .read .given .0 .0) (c .before .read .given .0 .1 .0)
 there c =
-    turn-row (start (loop c) .args .classes) (start (loop c) .pre .4) (loop c .loop .inv) (tested (turn c .before) ∙ turn c .if1 .taken) _ _ (sym (c .before .before .before .security-row .ensures) ∙ c .before .read .given .1)
+    turn-row (loop c .loop .inv) (tested (turn c .before) ∙ turn c .if1 .taken) _ _ (sym (c .before .before .before .security-row .ensures) ∙ c .before .read .given .1)
 
 ranked-requires : tie.Need-ranked-requires Inv-loop μ-loop
-ranked-requires c κs = let l = loop (c .before .before) in turn-most (start l .args .classes) (start l .pre .4) (l .loop .inv) .1
+ranked-requires c κs = let l = loop (c .before .before) in turn-most (l .loop .inv) .1
 
 class-of-requires : tie.Need-class-of-requires Inv-loop μ-loop
 class-of-requires c κs = start (loop (c .before .before .before .before .before .before)) .pre .3
@@ -124,15 +121,10 @@ class-is c =
     c .class-of .ensures
     ∙ ap (λ (all : Columns). classIn (take n (all .kinds)) (take n (all .borders)) (take n (all .numbers)) (s .kind) (s .duration)) (columns (loop (row c)) .columns-of .ensures)
 
-judged : (c : tie.After-broken Inv-loop μ-loop)
-    → let r = row (c .before) in
-    let l = loop r .loop in
-    let s = r .before .read .given .0 .0 in
-    c .broken .result ≡ brokenOf (l .count) (standingIn (l .currencies) s .there) (l .currencies .count) (l .last) (s .number) (classFor (start (loop r) .args .classes) s)
+judged : (c : tie.After-broken Inv-loop μ-loop) → c .broken .result ≡ judgment (there (row (c .before)))
 judged c =
-    let r = row (c .before) in
-    let l = loop r .loop in
-    let s = r .before .read .given .0 .0 in
+    let l = loop (row (c .before)) .loop in
+    let s = row (c .before) .before .read .given .0 .0 in
     c .broken .ensures
     ∙ ap₂ (λ (st : Standing) (n : ℕ). brokenOf (l .count) (st .there) (l .currencies .count) (l .last) (s .number) n) (standing (c .before) .ranked .ensures) (class-is (c .before))
 
@@ -142,32 +134,21 @@ refused-requires-2 c κs = search needs
 returns-2 : tie.Need-returns-2 Inv-loop μ-loop
 returns-2 c =
     let b = c .before .before in
-    let r = row (b .before) in
-    let l = loop r in
-    c .refused2 .ensures
-    ∙ turn-broken (start l .args .classes) (start l .pre .4) (l .loop .inv) (tested (turn r .before) ∙ turn r .if1 .taken) (there r) _ (judged b) (c .before .if2 .taken)
+    c .refused2 .ensures ∙ turn-broken (there (row (b .before))) _ (judged b) (c .before .if2 .taken)
 
--- It breaks no rule
-unbroken : (c : tie.Else2 Inv-loop μ-loop)
-    → let r = row (c .before .before) in
-    let l = loop r .loop in
-    let s = r .before .read .given .0 .0 in
-    brokenOf (l .count) (standingIn (l .currencies) s .there) (l .currencies .count) (l .last) (s .number) (classFor (start (loop r) .args .classes) s) ≡ 0
+-- The row is taken
+abbrev taken : tie.Else2 Inv-loop μ-loop → tie.After-known-told Inv-loop μ-loop
+taken c = row (c .before .before)
+
+unbroken : (c : tie.Else2 Inv-loop μ-loop) → judgment (there (taken c)) ≡ 0
 unbroken c = sym (judged (c .before)) ∙ c .if2 .left
 
 security-of-requires : tie.Need-security-of-requires Inv-loop μ-loop
-security-of-requires c κs =
-    let r = row (c .before .before) in
-    let l = loop r in
-    let on = tested (turn r .before) ∙ turn r .if1 .taken in
-    (turn-small (start l .args .classes) (start l .pre .4) (l .loop .inv) on (there r), rw (class-is (c .before .before)) (turn-class (start l .args .classes) (start l .pre .4) (l .loop .inv) on (there r)))
+security-of-requires c κs = (turn-small (there (taken c)), rw (class-is (c .before .before)) (turn-class (there (taken c))))
 
 -- There is room for it
-free : (c : tie.Else2 Inv-loop μ-loop) → loop (row (c .before .before)) .loop .count < 200
-free c =
-    let r = row (c .before .before) in
-    let l = loop r in
-    turn-free (start l .args .classes) (start l .pre .4) (l .loop .inv) (tested (turn r .before) ∙ turn r .if1 .taken) (there r) (unbroken c)
+free : (c : tie.Else2 Inv-loop μ-loop) → loop (taken c) .loop .count < 200
+free c = turn-free (there (taken c)) (unbroken c)
 
 mul-rows : tie.Need-mul-rows Inv-loop μ-loop
 mul-rows c = omega (arith, free (c .before))
@@ -190,39 +171,34 @@ array-write-money c = free (c .before)
 inserted-requires : tie.Need-inserted-requires Inv-loop μ-loop
 inserted-requires c κs =
     let e = c .before .before .before in
-    let r = row (e .before .before) in
-    let l = loop r in
-    turn-room (start l .args .classes) (start l .pre .4) (l .loop .inv) (tested (turn r .before) ∙ turn r .if1 .taken) (there r) (unbroken e) _ (standing (e .before .before) .ranked .ensures) (not-true _ (c .if3 .taken))
+    turn-room (there (taken e)) (unbroken e) _ (standing (e .before .before) .ranked .ensures) (not-true _ (c .if3 .taken))
 
 add-count : tie.Need-add-count Inv-loop μ-loop
 add-count c = omega (arith, free (c .before .before .before))
 
 loop-less : tie.Need-loop-less Inv-loop μ-loop
 loop-less c =
-    let r = row (c .before .before .before .before .before) in
-    omega (arith, there r .further, start (loop r) .pre .1)
+    let r = taken (c .before .before .before) in
+    omega (arith, turn-further (there r), start (loop r) .pre .1)
 
 loop-again : tie.Need-loop-again Inv-loop μ-loop
 loop-again c =
     let e = c .before .before .before in
-    let r = row (e .before .before) in
-    let l = loop r in
-    let on = tested (turn r .before) ∙ turn r .if1 .taken in
+    let r = there (taken e) in
     let ranks = standing (e .before .before) .ranked .ensures in
-    let known = turn-known (start l .args .classes) (start l .pre .4) (l .loop .inv) on (there r) (unbroken e) _ ranks in
-    let new = turn-new (start l .args .classes) (start l .pre .4) (l .loop .inv) on (there r) (unbroken e) _ ranks in
     rw (c .before .before .security-of .ensures, class-is (e .before .before))
-    (turn-more (start l .args .classes) (start l .pre .4) (l .loop .inv) on (there r) (unbroken e) _ ranks _
-    (⊎-elim (λ w. w .2 ∙ w .1 .ensures ∙ new (not-true _ (w .0 .taken))) (λ w. w .1 ∙ known (not-false _ (w .0 .left))) (c .if3 .came)))
+    (turn-more r (unbroken e) _ ranks _
+    (⊎-elim (λ w. w .2 ∙ w .1 .ensures ∙ turn-new r (unbroken e) _ ranks (not-true _ (w .0 .taken))) (λ w. w .1 ∙ turn-known r (unbroken e) _ ranks (not-false _ (w .0 .left)))
+    (c .if3 .came)))
 
 with-ranks-requires : tie.Need-with-ranks-requires Inv-loop μ-loop
-with-ranks-requires c κs = let l = c .before .before .before in turn-most (start l .args .classes) (start l .pre .4) (l .loop .inv)
+with-ranks-requires c κs = let l = c .before .before .before in turn-most (l .loop .inv)
 
 returns-3 : tie.Need-returns-3 Inv-loop μ-loop
 returns-3 c =
     let t = c .before .before in
     let l = t .before .before in
-    rw (c .with-ranks .ensures) (turn-ended (start l .args .classes) (start l .pre .4) (l .loop .inv) (tested (t .before) ∙ t .if1 .left))
+    rw (c .with-ranks .ensures) (turn-ended (l .loop .inv) (tested (t .before) ∙ t .if1 .left))
 
 pub security-section-spec : {M : Type 1} → statement M
 security-section-spec =

@@ -1,22 +1,18 @@
 -- `securities::with_ranks` meets its contract. The loop's invariant: the first `i` rows have the places of their currencies. The
 -- measure is the rows left.
-use Prim.Native.Nat.{ℕ, _+_, _-_, _≤_, _<_}
+use Prim.Native.Nat.{ℕ, _-_, _≤_}
 use native.Mathlib.Numerals.{add-one}
 use native.Mathlib.Omega.{arith}
-use mathlib.Core.List.{List}
-use mathlib.Core.Path.{_≡_, refl, sym, ap, ap₂, _∙_}
+use mathlib.Core.Path.{_≡_, refl, ap, _∙_}
 use borrow.Author.Needs.{needs}
 use lib.ListN.{length, getD, take, length-take}
 use Rattle.tables.specs.Held.{noSecurity}
-use Rattle.tables.specs.declared.Security.{Security}
-use Rattle.securities.specs.Ranks.{rankedOf, rankedSecurity, withRank}
+use Rattle.securities.specs.Ranks.{rankedSecurity, withRank}
 use Rattle.securities.specs.declared.Standing.{Standing}
 use Rattle.securities.proofs.Over.{over-more}
 use Rattle.securities.proofs.Ranks.{rank-most}
 use Rattle.securities.proofs.with_ranks.Statement.{statement}
 use Rattle.securities.proofs.with_ranks.Tie as tie
-use Rattle.securities.proofs.with_ranks.Reads as reads
-use Rattle.securities.proofs.with_ranks.Lts as lts
 
 abbrev Inv-loop : tie.InvT-loop
 Inv-loop money count currencies money' numbers ranked-rows₀ i₀ ranked-rows i =
