@@ -215,7 +215,8 @@ rank-has (s ∷ ss) (cons q each) c p =
 pub each-there : (ss : List SecurityRow) → Each Currencied ss → Each (λ s. rankedOf (moneyOf ss) (currencyNumber (s .currency)) .there ≡ true) ss
 each-there [] nil = nil
 each-there (s ∷ ss) (cons q each) =
-    cons (put s ∙ rw (eq-eqb own own refl)) (each-map (λ r there. put r ∙ ap (λ (b : Bool). eqb own (currencyNumber (r .currency)) || b) there ∙ or-true (eqb own (currencyNumber (r .currency)))) (each-there ss each))
+    cons (put s ∙ rw (eq-eqb own own refl))
+    (each-map (λ r there. let its = eqb own (currencyNumber (r .currency)) in put r ∙ ap (λ (b : Bool). its || b) there ∙ or-true its) (each-there ss each))
   where
     own : ℕ
     own = currencyNumber (s .currency)

@@ -171,8 +171,10 @@ module _ (sheet : Text) (at : Place) where
       lettered end good (kindIn (text 3)) kindNumber _ with-kind (kind-read (text 3)) (λ kind.
       lasting end good kind (text 4) _ (with-duration (kindNumber kind)) λ duration.
       ranged end (good && isDuration kind duration) 1 20_000_000 (text 5) _ (with-price (kindNumber kind) (Option·getD duration 0)) (omega arith) λ price.
-      ranged end (good && isDuration kind duration && between 1 20_000_000 price) 0 2_000_000 (text 6) _ (with-coupon (kindNumber kind) (Option·getD duration 0) price) (omega arith) λ coupon.
-      ranged end (good && isDuration kind duration && between 1 20_000_000 price && between 0 2_000_000 coupon) 1 4 (text 7) _ (with-payments (kindNumber kind) (Option·getD duration 0) price coupon) (omega arith) λ payments.
+      ranged end (good && isDuration kind duration && between 1 20_000_000 price) 0 2_000_000 (text 6) _
+      (with-coupon (kindNumber kind) (Option·getD duration 0) price) (omega arith) λ coupon.
+      ranged end (good && isDuration kind duration && between 1 20_000_000 price && between 0 2_000_000 coupon) 1 4 (text 7) _
+      (with-payments (kindNumber kind) (Option·getD duration 0) price coupon) (omega arith) λ payments.
       row-read kind duration price coupon payments)
       ∙ sym (rw (code-read (text 1), currency-read (text 2), split, split, split, split, split, split))
 

@@ -213,7 +213,8 @@ module _ (above : List paper.SecurityRow) (facts : Each SecurityFacts above) (fe
     its-class = table-classed (s .kind) (s .duration) (form .duration) classes within
 
     -- It is judged as the paper judges it
-    alike : brokenOf (length above) (standingIn (currencyTable (currencies above)) (heldRow sheet at s) .there) (length (currencies above)) (lastOf above) (codeOf s) (classFor classes (heldRow sheet at s))
+    alike : let held = currencyTable (currencies above) in
+        brokenOf (length above) (standingIn held (heldRow sheet at s) .there) (held .count) (lastOf above) (codeOf s) (classFor classes (heldRow sheet at s))
         ≡ broken (kindWith classes .others above s)
     alike =
         let eight = ap (λ (s : Standing). s .there) its-standing ∙ rank-has above (currencied facts) (s .currency) (form .currency) in

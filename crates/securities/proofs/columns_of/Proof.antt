@@ -33,7 +33,10 @@ module _ (of : ClassRow → ℕ) (rows : List ClassRow) where
 
 abbrev Inv-loop : tie.InvT-loop
 Inv-loop rows kinds₀ borders₀ numbers₀ i₀ kinds borders numbers i =
-    (i ≤ 40) × (length rows ≡ 40) × (kinds ≡ column (λ c. kindNumber (kindOf (c .kind))) rows i kinds₀) × (borders ≡ column (λ c. c .border) rows i borders₀) × (numbers ≡ column (λ c. c .class) rows i numbers₀)
+    (i ≤ 40) × (length rows ≡ 40)
+    × (kinds ≡ column (λ c. kindNumber (kindOf (c .kind))) rows i kinds₀)
+    × (borders ≡ column (λ c. c .border) rows i borders₀)
+    × (numbers ≡ column (λ c. c .class) rows i numbers₀)
 
 abbrev μ-loop : tie.MeasureT-loop
 μ-loop rows kinds₀ borders₀ numbers₀ i₀ kinds borders numbers i = 40 - i

@@ -60,7 +60,9 @@ module _ (ns : List ℕ) (count own : ℕ) where
         go (goes m e) =
             record {
               low = omega arith;
-              below = λ k n. let upto : k ≤ rank = omega arith in ⊎-elim (λ same. subst (λ (n : ℕ). getD ns n 0 < own) (sym (same ∙ e)) l) (λ less. r .below k less) (eq-or-lt-of-le upto);
+              below = λ k n.
+                  let upto : k ≤ rank = omega arith in
+                  ⊎-elim (λ same. subst (λ (n : ℕ). getD ns n 0 < own) (sym (same ∙ e)) l) (λ less. r .below k less) (eq-or-lt-of-le upto);
               course = goes m (omega arith);
             }
         go (passed m ends) =

@@ -17,7 +17,8 @@ use Rattle.securities.specs.Classes.{classIn}
 use Rattle.securities.specs.declared.Columns.{Columns}
 use Rattle.securities.specs.declared.Standing.{Standing}
 use Rattle.securities.specs.Section.{brokenOf, securitySection}
-use Rattle.securities.proofs.Turns.{Turn, turn-start, classFor, turn-refused, Read, turn-row, turn-small, turn-class, turn-further, judgment, turn-broken, turn-free, turn-room, turn-known, turn-new, turn-more, turn-most, turn-ended}
+use Rattle.securities.proofs.Turns.{Turn, turn-start, classFor, turn-refused, Read, turn-row}
+use Rattle.securities.proofs.Turns.{turn-small, turn-class, turn-further, judgment, turn-broken, turn-free, turn-room, turn-known, turn-new, turn-more, turn-most, turn-ended}
 use Rattle.securities.proofs.security_section.Statement.{statement}
 use Rattle.securities.proofs.security_section.Tie as tie
 
