@@ -6,22 +6,24 @@ use mathlib.Core.Bool.{Bool, true}
 use mathlib.Core.List.{List, []}
 use mathlib.Core.Path.{_≡_, sym, ap, _∙_}
 use borrow.Author.Needs.{needs}
+use lib.ListN.{length}
 use Rattle.paper.specs.Rows.{ClassRow}
-use Rattle.paper.specs.Refusals.{refused}
+use Rattle.paper.specs.Refusals.{refused, priorityKind}
 use Rattle.fields.specs.Places.{Place, endedLength}
 use Rattle.tables.specs.Back.{paperClasses}
 use Rattle.tables.specs.declared.PriorityRow.{PriorityRow}
-use Rattle.sections.specs.Sections.{goesOn}
+use Rattle.sections.specs.Sections.{goesOn, broken}
 use Rattle.sections.proofs.Loops.{goes-before}
 use Rattle.priorities.specs.Read.{priorityNumber}
 use Rattle.priorities.specs.Known.{knownOf, brokenOf}
 use Rattle.priorities.specs.Section.{prioritySection}
-use Rattle.priorities.proofs.Turns.{Turn, turn-start, turn-refused, Read, turn-row, turn-low, turn-broken, turn-free, turn-more, turn-ended}
+use Rattle.sections.proofs.Rooms.{Turn, turn-start, turn-refused, Read, turn-row, turn-broken, turn-kept, turn-more, turn-counted, turn-ended}
+use Rattle.priorities.proofs.Turns.{room, few, low, alike}
 use Rattle.priorities.proofs.priority_section.Statement.{statement}
 use Rattle.priorities.proofs.priority_section.Tie as tie
 
 abbrev Inv-loop : tie.InvT-loop
-Inv-loop s from end known rows₀ count₀ at₀ rows count at = (cs : List ClassRow) → known ≡ knownOf cs → Turn cs s from rows count at
+Inv-loop s from end known rows₀ count₀ at₀ rows count at = (cs : List ClassRow) → known ≡ knownOf cs → Turn (room cs) s from rows count at
 
 abbrev μ-loop : tie.MeasureT-loop
 μ-loop s from end known rows₀ count₀ at₀ rows count at = end - at
@@ -35,7 +37,7 @@ no-priorities-requires c κs = search needs
 loop-holds : tie.Need-loop-holds Inv-loop μ-loop
 loop-holds c cs e =
     let a = c .before .before .before .before in
-    rw (c .before .no-priorities .ensures) (turn-start cs (a .args .s .now) (a .args .from) (omega arith))
+    rw (c .before .no-priorities .ensures) (turn-start (room cs) (a .args .s .now) (a .args .from) (omega arith))
 
 -- Where the function starts, and the C rows
 abbrev start : tie.At-loop Inv-loop μ-loop → tie.Start Inv-loop μ-loop
@@ -45,7 +47,7 @@ abbrev classes : tie.At-loop Inv-loop μ-loop → List ClassRow
 classes c = paperClasses (start c .args .classes)
 
 -- The turn that a test of the loop begins
-turned : (c : tie.At-loop Inv-loop μ-loop) → Turn (classes c) (start c .args .s .now) (start c .args .from) (c .loop .rows) (c .loop .count) (c .loop .at)
+turned : (c : tie.At-loop Inv-loop μ-loop) → Turn (room (classes c)) (start c .args .s .now) (start c .args .from) (c .loop .rows) (c .loop .count) (c .loop .at)
 turned c = c .loop .inv (classes c) (c .before .before .before .known-classes .ensures)
 
 goes-on-requires : tie.Need-goes-on-requires Inv-loop μ-loop
@@ -82,7 +84,7 @@ returns c =
     let read = c .before .before .enum-told .given .1 in
     c .refused .ensures
     ∙ ap (λ (n : ℕ). prioritySection [] 0 (refused n (t .before .before .loop .count))) (c .before .priority-number .ensures ∙ ap priorityNumber read)
-    ∙ turn-refused (classes (t .before .before)) (turned (t .before .before)) (tested (t .before) ∙ t .if1 .taken) _ (sym (r .priority-row .ensures) ∙ read)
+    ∙ turn-refused (room (classes (t .before .before))) (turned (t .before .before)) (tested (t .before) ∙ t .if1 .taken) _ (sym (r .priority-row .ensures) ∙ read)
 
 -- The loop's test before a row that was read
 abbrev turn : tie.After-known Inv-loop μ-loop → tie.Then1 Inv-loop μ-loop
@@ -94,19 +96,24 @@ row c = c .before .before .read .given .0 .0
 
 -- Whatever C rows the known classes are those of, it is one of the paper's
 module _ (c : tie.After-known Inv-loop μ-loop) (cs : List ClassRow) (known : turn c .before .before .before .before .before .known-classes .result ≡ knownOf cs) where
-  abbrev inv : Turn cs (start (turn c .before .before) .args .s .now) (start (turn c .before .before) .args .from) (turn c .before .before .loop .rows) (turn c .before .before .loop .count) (turn c .before .before .loop .at)
+  abbrev inv : Turn (room cs) (start (turn c .before .before) .args .s .now) (start (turn c .before .before) .args .from) (turn c .before .before .loop .rows) (turn c .before .before .loop .count) (turn c .before .before .loop .at)
   inv = turn c .before .before .loop .inv cs known
 
   abbrev on : goesOn (start (turn c .before .before) .args .s .now) (turn c .before .before .loop .at) (endedLength (start (turn c .before .before) .args .s .now)) 79 ≡ true
   on = tested (turn c .before) ∙ turn c .if1 .taken
 
-  there : Read cs inv on (row c) (c .before .before .read .given .0 .1 .0)
-  there = turn-row cs inv on _ _ (sym (c .before .before .before .before .priority-row .ensures) ∙ c .before .before .read .given .1)
+  there : Read (room cs) inv on (row c) (c .before .before .read .given .0 .1 .0)
+  there = turn-row (room cs) inv on _ _ (sym (c .before .before .before .before .priority-row .ensures) ∙ c .before .before .read .given .1)
 
   -- What judging it answers
   judged : (number : ℕ) → number ≡ brokenOf (turn c .before .before .before .before .before .known-classes .result) (turn c .before .before .loop .count) (row c)
-      → number ≡ brokenOf (knownOf cs) (turn c .before .before .loop .count) (row c)
-  judged number e = e ∙ ap (λ (k : List Bool). brokenOf k (turn c .before .before .loop .count) (row c)) known
+      → number ≡ broken (priorityKind cs .others (inv .above) (there .row-is))
+  judged number e =
+      e
+      ∙ ap (λ (k : List Bool). brokenOf k (turn c .before .before .loop .count) (row c)) known
+      ∙ ap (λ (n : ℕ). brokenOf (knownOf cs) n (row c)) (inv .going .counted)
+      ∙ ap (λ (h : PriorityRow). brokenOf (knownOf cs) (length (inv .above)) h) (sym (there .held-is))
+      ∙ alike cs (inv .above) (there .row-is) (there .own)
 
 -- The C rows of the table are such
 abbrev own : tie.After-known Inv-loop μ-loop → List ClassRow
@@ -116,7 +123,8 @@ abbrev its-known : (c : tie.After-known Inv-loop μ-loop) → turn c .before .be
 its-known c = turn c .before .before .before .before .before .known-classes .ensures
 
 broken-requires : tie.Need-broken-requires Inv-loop μ-loop
-broken-requires c κs = turn-low (own c) (inv c (own c) (its-known c)) (on c (own c) (its-known c)) (there c (own c) (its-known c))
+broken-requires c κs =
+    let r = there c (own c) (its-known c) in rw (sym (r .held-is)) (low (own c) (r .row-is) (r .own))
 
 refused-requires-2 : tie.Need-refused-requires-2 Inv-loop μ-loop
 refused-requires-2 c κs = search needs
@@ -125,19 +133,21 @@ returns-2 : tie.Need-returns-2 Inv-loop μ-loop
 returns-2 c =
     let b = c .before .before in
     let r = b .before in
-    let e = judged r (own r) (its-known r) (b .broken .result) (b .broken .ensures) in
-    c .refused2 .ensures ∙ ap (λ (n : ℕ). prioritySection [] 0 (refused n (turn r .before .before .loop .count))) e
-    ∙ turn-broken (own r) (inv r (own r) (its-known r)) (on r (own r) (its-known r)) (there r (own r) (its-known r)) (λ none. c .before .if2 .taken (e ∙ none))
+    c .refused2 .ensures
+    ∙ turn-broken (room (own r)) (inv r (own r) (its-known r)) (on r (own r) (its-known r)) (there r (own r) (its-known r))
+    (judged r (own r) (its-known r) (b .broken .result) (b .broken .ensures)) (c .before .if2 .taken)
 
 -- It breaks no rule, so there is room for it
-unbroken : (c : tie.Else2 Inv-loop μ-loop) (cs : List ClassRow) (known : turn (c .before .before) .before .before .before .before .before .known-classes .result ≡ knownOf cs)
-    → brokenOf (knownOf cs) (turn (c .before .before) .before .before .loop .count) (row (c .before .before)) ≡ 0
-unbroken c cs known = sym (judged (c .before .before) cs known (c .before .broken .result) (c .before .broken .ensures)) ∙ c .if2 .left
-
 free : (c : tie.Else2 Inv-loop μ-loop) → turn (c .before .before) .before .before .loop .count < 200
 free c =
     let r = c .before .before in
-    turn-free (own r) (inv r (own r) (its-known r)) (on r (own r) (its-known r)) (there r (own r) (its-known r)) (unbroken c (own r) (its-known r))
+    let i = inv r (own r) (its-known r) in
+    omega (
+      arith,
+      i .going .counted,
+      few (own r) (turn-kept (room (own r)) i (on r (own r) (its-known r)) (there r (own r) (its-known r))
+          (judged r (own r) (its-known r) (c .before .broken .result) (c .before .broken .ensures)) (c .if2 .left)),
+    )
 
 mul-rows : tie.Need-mul-rows Inv-loop μ-loop
 mul-rows c = omega (arith, free c)
@@ -156,10 +166,15 @@ loop-less c =
 loop-again : tie.Need-loop-again Inv-loop μ-loop
 loop-again c cs known =
     let r = c .before .before in
-    turn-more cs (inv r cs known) (on r cs known) (there r cs known) (unbroken c cs known)
+    turn-more (room cs) (inv r cs known) (on r cs known) (there r cs known)
+    (judged r cs known (c .before .broken .result) (c .before .broken .ensures)) (c .if2 .left) (free c) (sym (there r cs known .held-is))
 
 returns-3 : tie.Need-returns-3 Inv-loop μ-loop
-returns-3 c = turn-ended (classes (c .before .before)) (turned (c .before .before)) (tested (c .before) ∙ c .if1 .left)
+returns-3 c =
+    let l = c .before .before in
+    let t = turned l in
+    let many = turn-counted (room (classes l)) t in
+    turn-ended (room (classes l)) t (tested (c .before) ∙ c .if1 .left) (λ i. record { count = many i; rows = t .table-is i })
 
 pub priority-section-spec : {M : Type 1} → statement M
 priority-section-spec =

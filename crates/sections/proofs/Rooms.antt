@@ -1,0 +1,107 @@
+-- A section's loop, turn by turn: the table has the rows above, a line that is refused refuses the section, and a row that breaks no
+-- rule is put into the table. Said once, over what a section's room has.
+use Prim.Native.Nat.{ℕ, _+_, _≤_, _<_}
+use native.Mathlib.Omega.{arith}
+use mathlib.Core.Bool.{true, false}
+use mathlib.Core.List.{List, [], _∷_, reverse}
+use mathlib.Core.Path.{_≡_, refl, sym, ap, _∙_}
+use lib.ListN.{length, set, length-reverse}
+use Rattle.paper.specs.Units.{Byte, Text}
+use Rattle.paper.specs.Refusals.{RowKind}
+use Rattle.paper.proofs.Outcomes.{numbered}
+use Rattle.fields.specs.Places.{Place, endedLength, lineAt}
+use Rattle.tables.specs.Padded.{tableOf}
+use Rattle.tables.proofs.Padded.{table-more}
+use Rattle.sections.specs.Sections.{fieldsAt, goesOn, shaped, told, broken}
+use Rattle.sections.specs.declared.Section.{Section}
+use Rattle.sections.proofs.Loops as loops
+use Rattle.sections.proofs.Loops.{Kept, Words, Going, going-start, going-ended, line-refused, LineRow, line-row, result-refused, result-ended}
+
+-- What a section's room has: its row kind, with its letter as a byte; how the code says a refusal and a row of the line at a place; how
+-- a row is kept in a table of so many places; and how the section is made of how it went and of its table
+pub record Room (R A H K S T : Type 0) : Type 0 where
+  pub kind : RowKind R
+  pub numbers : (above : List R) (r : R) → numbered (kind .others above r) ≡ true
+  pub letter : Byte
+  pub its-letter : kind .letter ≡ letter ∷ []
+  pub refuse : ℕ → A
+  pub row : H → Place → A
+  pub words : Words refuse row
+  pub held : Text → Place → R → H
+  pub most : ℕ
+  pub free : K
+  pub kept : R → K
+  pub make : Section → T → S
+  pub table : List R → T
+
+module _ {R A H K S T : Type 0} (room : Room R A H K S T) where
+  -- The section, as the code holds it; and with a refusal, so many rows above it
+  abbrev pub result : Text → Place → S
+  result sheet from = loops.result (room .kind) sheet from (room .make) (room .table)
+
+  abbrev pub refusedWith : ℕ → ℕ → S
+  refusedWith number count = room .make (record { refusal = number; count = count; next = 0 }) (room .table [])
+
+  -- What the line at a place is read as
+  abbrev pub readAt : Text → Place → A
+  readAt sheet at = told (room .refuse) (λ r. room .row (room .held sheet at r) (lineAt sheet at .next)) (shaped (room .kind) (fieldsAt sheet at))
+
+  -- After so many rows
+  pub record Turn (sheet : Text) (from : Place) (rows : List K) (count : ℕ) (at : Place) : Type 0 where
+    pub above : List R
+    pub going : Going (room .kind) sheet from above count at
+    pub table-is : rows ≡ tableOf (room .most) (room .free) (room .kept) (reverse above)
+
+  pub turn-start : (sheet : Text) (from : Place) → from ≤ endedLength sheet
+      → Turn sheet from (tableOf (room .most) (room .free) (room .kept) []) 0 from
+  turn-start sheet from h = record { above = []; going = going-start (room .kind) sheet from h; table-is = refl }
+
+  module _ {sheet : Text} {from : Place} {rows : List K} {count : ℕ} {at : Place} (t : Turn sheet from rows count at) where
+    module _ (on : goesOn sheet at (endedLength sheet) (room .letter) ≡ true) where
+      -- A line that is refused by itself refuses the section
+      pub turn-refused : (number : ℕ) → readAt sheet at ≡ room .refuse number → refusedWith number count ≡ result sheet from
+      turn-refused number e =
+          result-refused (room .kind) sheet from (room .make) (room .table) number count
+          (line-refused (room .kind) (room .numbers) (room .letter) (room .its-letter) (room .words) (room .held sheet at) (t .going) on number e)
+
+      -- A row that was read is one of the paper's
+      abbrev pub Read : H → Place → Type 0
+      Read = LineRow (room .kind) (room .numbers) (room .letter) (room .its-letter) (room .words) (room .held sheet at) (t .going) on
+
+      pub turn-row : (h : H) (next : Place) → readAt sheet at ≡ room .row h next → Read h next
+      turn-row = line-row (room .kind) (room .numbers) (room .letter) (room .its-letter) (room .words) (room .held sheet at) (t .going) on
+
+      -- It is judged by its rules on other rows
+      module _ {h : H} {next : Place} (r : Read h next) {number : ℕ} (judged : number ≡ broken (room .kind .others (t .above) (r .row-is))) where
+        pub turn-broken : (number ≡ 0 → ⊥) → refusedWith number count ≡ result sheet from
+        turn-broken other =
+            ap (λ (n : ℕ). refusedWith n count) judged
+            ∙ result-refused (room .kind) sheet from (room .make) (room .table) _ count (r .refuses (λ none. other (judged ∙ none)))
+
+        module _ (clear : number ≡ 0) where
+          more : Going (room .kind) sheet from (r .row-is ∷ t .above) (count + 1) next
+          more = r .goes (sym judged ∙ clear)
+
+          -- Where it breaks none, it keeps all with the rows above, and is put into the table
+          pub turn-kept : Kept (room .kind) (r .row-is ∷ t .above)
+          turn-kept = more .kept
+
+          pub turn-more : count < room .most → {k : K} → k ≡ room .kept (r .row-is) → Turn sheet from (set rows count k) (count + 1) next
+          turn-more low e =
+              record {
+                above = r .row-is ∷ t .above;
+                going = more;
+                table-is =
+                    ap (set rows count) e
+                    ∙ table-more (room .most) (room .free) (room .kept) (t .above) (t .table-is) (t .going .counted) (r .row-is) low;
+              }
+
+    -- The end of the section
+    pub turn-counted : count ≡ length (reverse (t .above))
+    turn-counted = t .going .counted ∙ sym (length-reverse (t .above))
+
+    pub turn-ended : goesOn sheet at (endedLength sheet) (room .letter) ≡ false → {x : T} → x ≡ room .table (reverse (t .above))
+        → room .make (record { refusal = 0; count = count; next = at }) x ≡ result sheet from
+    turn-ended off {x} is =
+        result-ended (room .kind) sheet from (room .make) (room .table) (t .going)
+        (going-ended (room .kind) (room .numbers) (room .letter) (room .its-letter) (t .going) off) x is
