@@ -52,7 +52,7 @@ module _ {R A H K S T : Type 0} (room : Room R A H K S T) where
     pub going : Going (room .kind) sheet from above count at
     pub table-is : rows ≡ tableOf (room .most) (room .free) (room .kept) (reverse above)
 
-  pub turn-start : (sheet : Text) (from : Place) → from ≤ endedLength sheet
+  abbrev pub turn-start : (sheet : Text) (from : Place) → from ≤ endedLength sheet
       → Turn sheet from (tableOf (room .most) (room .free) (room .kept) []) 0 from
   turn-start sheet from h = record { above = []; going = going-start (room .kind) sheet from h; table-is = refl }
 
@@ -79,18 +79,18 @@ module _ {R A H K S T : Type 0} (room : Room R A H K S T) where
             ∙ result-refused (room .kind) sheet from (room .make) (room .table) _ count (r .refuses (λ none. other (judged ∙ none)))
 
         module _ (clear : number ≡ 0) where
-          more : Going (room .kind) sheet from (r .row-is ∷ t .above) (count + 1) next
-          more = r .goes (sym judged ∙ clear)
+          pub turn-going : Going (room .kind) sheet from (r .row-is ∷ t .above) (count + 1) next
+          turn-going = r .goes (sym judged ∙ clear)
 
           -- Where it breaks none, it keeps all with the rows above, and is put into the table
           pub turn-kept : Kept (room .kind) (r .row-is ∷ t .above)
-          turn-kept = more .kept
+          turn-kept = turn-going .kept
 
-          pub turn-more : count < room .most → {k : K} → k ≡ room .kept (r .row-is) → Turn sheet from (set rows count k) (count + 1) next
+          abbrev pub turn-more : count < room .most → {k : K} → k ≡ room .kept (r .row-is) → Turn sheet from (set rows count k) (count + 1) next
           turn-more low e =
               record {
                 above = r .row-is ∷ t .above;
-                going = more;
+                going = turn-going;
                 table-is =
                     ap (set rows count) e
                     ∙ table-more (room .most) (room .free) (room .kept) (t .above) (t .table-is) (t .going .counted) (r .row-is) low;

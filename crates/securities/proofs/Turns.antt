@@ -7,7 +7,7 @@ use mathlib.Core.List.{List, [], _∷_, _++_, map, reverse, reverse-cons}
 use mathlib.Core.Option.{Option, none, some, Option·getD}
 use mathlib.Core.Path.{_≡_, refl, sym, ap, ap₂, _∙_, subst}
 use lib.Dec.{T, eqb, ltb, ltb→lt}
-use lib.ListN.{length, take, set, replicate, length-reverse}
+use lib.ListN.{length, take, set, replicate}
 use Rattle.paper.specs.Units.{Text, Number, Date, Day, Currency, Class}
 use Rattle.paper.specs.Days.{day, dayOf}
 use Rattle.paper.specs.Lists.{between}
@@ -15,7 +15,7 @@ use Rattle.paper.specs.Text.{isCode, isCurrency}
 use Rattle.paper.specs.Rows as paper
 use Rattle.paper.specs.Currencies.{currencies, hasCurrency}
 use Rattle.paper.specs.Valuation.{classOf}
-use Rattle.paper.specs.Refusals.{RowKind, refused, isDuration, securityKind}
+use Rattle.paper.specs.Refusals.{RowKind, isDuration, securityKind}
 use Rattle.paper.specs.Tables.{hold}
 use Rattle.paper.proofs.Lists.{tests, both, bounds, Each, nil, cons, each-map}
 use Rattle.paper.proofs.Days.{day-below}
@@ -32,14 +32,15 @@ use Rattle.tables.specs.declared.Securities.{Securities}
 use Rattle.tables.specs.declared.Security.{Security}
 use Rattle.tables.proofs.Padded.{table-more, table-front}
 use Rattle.sections.specs.Sections.{goesOn, broken}
-use Rattle.sections.proofs.Loops as loops
-use Rattle.sections.proofs.Loops.{Kept, none-kept, more-kept, Words, Going, going-start, going-ended, line-refused, LineRow, line-row, result-refused, result-ended}
-use Rattle.sections.specs.declared.Section.{Section}
+use Rattle.sections.proofs.Loops.{Kept, none-kept, more-kept, Going}
+use Rattle.sections.proofs.Rooms as rooms
+use Rattle.sections.proofs.Rooms.{Room}
 use Rattle.securities.specs.Read.{heldRow, securityRead}
 use Rattle.securities.specs.Classes.{columnsOf, classIn}
 use Rattle.securities.specs.Ranks.{rankedOf, insertedAt, withRank}
-use Rattle.securities.specs.Section.{Small, brokenOf, securityOf, securitySection}
+use Rattle.securities.specs.Section.{Small, brokenOf, securityOf}
 use Rattle.securities.specs.declared.SecurityRow.{SecurityRow}
+use Rattle.securities.specs.declared.SecurityRead.{SecurityRead}
 use Rattle.securities.specs.declared.SecurityRead.the-variants as reads
 use Rattle.securities.specs.declared.SecuritySection.{SecuritySection}
 use Rattle.securities.specs.declared.Standing.{Standing}
@@ -47,15 +48,6 @@ use Rattle.securities.proofs.Classes.{Classed, class-is, class-given, c
 use Rattle.securities.proofs.Codes.{lastOf, last-before}
 use Rattle.securities.proofs.Row.{payments-parts}
 use Rattle.securities.proofs.Ranks.{Currencied, moneyOf, rank-place, rank-has, each-there, money-known, money-longer, money-new}
-
--- How the code says a row and a refusal
-pub words : Words reads.Refused (λ (s : SecurityRow) (next : Place). reads.Row s next)
-words =
-    record {
-      apart = λ number s next e. let z : _≡_ {A = ℕ} 0 1 = cc in absurd (omega arith);
-      one = λ s t m n e. (cc, cc);
-      number = λ m n e. cc;
-    }
 
 -- What the rules of a row by itself say
 record Formed (s : paper.SecurityRow) : Type 0 where
@@ -156,40 +148,52 @@ ranked-rows cs all (suc most) (s ∷ ss) free (cons t each) =
 abbrev kindWith : Classes → RowKind paper.SecurityRow
 kindWith classes = securityKind (paperClasses classes)
 
+-- The room
+abbrev pub room : Classes → Room paper.SecurityRow SecurityRead SecurityRow Security SecuritySection Securities
+room classes =
+    record {
+      kind = kindWith classes;
+      numbers = λ above s. refl;
+      letter = 83;
+      its-letter = refl;
+      refuse = reads.Refused;
+      row = λ s next. reads.Row s next;
+      words = record {
+        apart = λ number s next e. let z : _≡_ {A = ℕ} 0 1 = cc in absurd (omega arith);
+        one = λ s t m n e. (cc, cc);
+        number = λ m n e. cc;
+      };
+      held = heldRow;
+      most = 200;
+      free = noSecurity;
+      kept = unranked (paperClasses classes);
+      make = λ section table. record { section = section; table = table };
+      table = securityTable (paperClasses classes);
+    }
+
 -- After so many rows
 pub record Turn (classes : Classes) (sheet : Text) (from : Place) (rows : List Security) (codes money : List ℕ) (held : Currencies)
     (last count : ℕ) (at : Place) : Type 0 where
   pub within : ranged classes ≡ true
-  pub above : List paper.SecurityRow
-  pub going : Going (kindWith classes) sheet from above count at
-  pub table : rows ≡ tableOf 200 noSecurity (unranked (paperClasses classes)) (reverse above)
-  pub codes-are : codes ≡ tableOf 256 highest codeOf (reverse above)
-  pub money-are : money ≡ tableOf 200 0 ownMoney (reverse above)
-  pub held-are : held ≡ currencyTable (currencies above)
-  pub few : length (currencies above) ≤ 8
-  pub last-is : last ≡ lastOf above
+  pub turn : rooms.Turn (room classes) sheet from rows count at
+  pub codes-are : codes ≡ tableOf 256 highest codeOf (reverse (turn .above))
+  pub money-are : money ≡ tableOf 200 0 ownMoney (reverse (turn .above))
+  pub held-are : held ≡ currencyTable (currencies (turn .above))
+  pub few : length (currencies (turn .above)) ≤ 8
+  pub last-is : last ≡ lastOf (turn .above)
 
 pub turn-start : (classes : Classes) (sheet : Text) (from : Place) → ranged classes ≡ true → from ≤ endedLength sheet
     → Turn classes sheet from (securityTable [] [] .rows) (securityTable [] [] .codes) (tableOf 200 0 ownMoney []) (securityTable [] [] .currencies) 0 0 from
 turn-start classes sheet from within h =
     record {
       within = within;
-      above = [];
-      going = going-start (kindWith classes) sheet from h;
-      table = refl;
+      turn = rooms.turn-start (room classes) sheet from h;
       codes-are = refl;
       money-are = refl;
       held-are = refl;
       few = omega arith;
       last-is = refl;
     }
-
--- The section, as the code holds it
-abbrev made : Section → Securities → SecuritySection
-made section table = record { section = section; table = table }
-
-abbrev pub result : Classes → Text → Place → SecuritySection
-result classes sheet from = loops.result (kindWith classes) sheet from made (securityTable (paperClasses classes))
 
 -- Where the currency of a row stands among those held, and the class that is found for it
 abbrev pub standingIn : Currencies → SecurityRow → Standing
@@ -224,46 +228,38 @@ module _ (above : List paper.SecurityRow) (facts : Each SecurityFacts above) (fe
 
 module _ {classes : Classes} {sheet : Text} {from : Place} {rows : List Security} {codes money : List ℕ} {held : Currencies} {last count : ℕ} {at : Place} where
   module _ (t : Turn classes sheet from rows codes money held last count at) where
-    facts : Each SecurityFacts (t .above)
-    facts = kept-facts (paperClasses classes) (t .going .kept)
+    facts : Each SecurityFacts (t .turn .above)
+    facts = kept-facts (paperClasses classes) (t .turn .going .kept)
 
     -- No more than the tables have places
     pub turn-most : (count ≤ 200) × (held .count ≤ 8)
-    turn-most = (omega (arith, t .going .counted, kept-most (paperClasses classes) (t .going .kept)), rw (t .held-are) (t .few))
-
-    -- A line that is refused by itself refuses the section
-    pub turn-refused : goesOn sheet at (endedLength sheet) 83 ≡ true → (number : ℕ) → securityRead sheet at ≡ reads.Refused number
-        → securitySection [] [] 0 (refused number count) ≡ result classes sheet from
-    turn-refused on number e =
-        result-refused (kindWith classes) sheet from made (securityTable (paperClasses classes)) number count
-        (line-refused (kindWith classes) (λ above c. refl) 83 refl words (heldRow sheet at) (t .going) on number e)
+    turn-most = (omega (arith, t .turn .going .counted, kept-most (paperClasses classes) (t .turn .going .kept)), rw (t .held-are) (t .few))
 
     -- A row that was read
     pub record Read (s : SecurityRow) (next : Place) : Type 0 where
       on : goesOn sheet at (endedLength sheet) 83 ≡ true
-      line : LineRow (kindWith classes) (λ above c. refl) 83 refl words (heldRow sheet at) (t .going) on s next
+      line : rooms.Read (room classes) (t .turn) on s next
 
     pub turn-row : goesOn sheet at (endedLength sheet) 83 ≡ true → (s : SecurityRow) (next : Place) → securityRead sheet at ≡ reads.Row s next → Read s next
-    turn-row on s next e = record { on = on; line = line-row (kindWith classes) (λ above c. refl) 83 refl words (heldRow sheet at) (t .going) on s next e }
+    turn-row on s next e = record { on = on; line = rooms.turn-row (room classes) (t .turn) on s next e }
 
     -- The end of the section
     pub turn-ended : goesOn sheet at (endedLength sheet) 83 ≡ false
-        → made (record { refusal = 0; count = count; next = at })
+        → room classes .make (record { refusal = 0; count = count; next = at })
         (record { count = count; rows = withRank (take (held .count) (held .numbers)) (take count money) rows; codes = codes; currencies = held })
-        ≡ result classes sheet from
+        ≡ rooms.result (room classes) sheet from
     turn-ended off =
-        let ss = reverse (t .above) in
-        let many : count ≡ length ss = t .going .counted ∙ sym (length-reverse (t .above)) in
-        let all : currencies (t .above) ≡ currencies ss = sym (currencies-reverse (t .above)) in
+        let ss = reverse (t .turn .above) in
+        let many : count ≡ length ss = rooms.turn-counted (room classes) (t .turn) in
+        let all : currencies (t .turn .above) ≡ currencies ss = sym (currencies-reverse (t .turn .above)) in
         let held-is : held ≡ currencyTable (currencies ss) = t .held-are ∙ ap currencyTable all in
         let numbers : take (held .count) (held .numbers) ≡ map currencyNumber (currencies ss) = rw held-is (table-front 8 0 currencyNumber (currencies ss) (rw all at (t .few))) in
         let own : take count money ≡ map ownMoney ss = rw (t .money-are, many) (table-front 200 0 ownMoney ss (omega (arith, turn-most .0))) in
-        let each = subst (λ (ds : List Currency). Each (λ s. rankedOf (map currencyNumber ds) (ownMoney s) .there ≡ true) ss) all (each-reverse (each-there (t .above) (currencied facts))) in
+        let each = subst (λ (ds : List Currency). Each (λ s. rankedOf (map currencyNumber ds) (ownMoney s) .there ≡ true) ss) all (each-reverse (each-there (t .turn .above) (currencied facts))) in
         let ranks : withRank (take (held .count) (held .numbers)) (take count money) rows ≡ tableOf 200 noSecurity (heldSecurity (paperClasses classes) (currencies ss)) ss =
-        rw (numbers, own, t .table) (ranked-rows (paperClasses classes) (currencies ss) 200 ss (replicate 200 noSecurity) each)
+        rw (numbers, own, t .turn .table-is) (ranked-rows (paperClasses classes) (currencies ss) 200 ss (replicate 200 noSecurity) each)
         in
-        result-ended (kindWith classes) sheet from made (securityTable (paperClasses classes)) (t .going)
-        (going-ended (kindWith classes) (λ above c. refl) 83 refl (t .going) off) _
+        rooms.turn-ended (room classes) (t .turn) off
         (λ i. record { count = many i; rows = ranks i; codes = t .codes-are i; currencies = held-is i })
 
   module _ {t : Turn classes sheet from rows codes money held last count at} {s : SecurityRow} {next : Place} (r : Read t s next) where
@@ -277,7 +273,7 @@ module _ {classes : Classes} {sheet : Text} {from : Place} {rows : List Security
     held-row : heldRow sheet at row ≡ s
     held-row = r .line .held-is
 
-    each-money : Each Currencied (t .above)
+    each-money : Each Currencied (t .turn .above)
     each-money = currencied (facts t)
 
     -- It fits the table
@@ -287,7 +283,7 @@ module _ {classes : Classes} {sheet : Text} {from : Place} {rows : List Security
     classed : Classed (classFor classes s) (classOf (paperClasses classes) (row .kind) (row .duration))
     classed =
         subst (λ (s : SecurityRow). Classed (classFor classes s) (classOf (paperClasses classes) (row .kind) (row .duration))) held-row
-        (its-class (t .above) (facts t) (t .few) row form sheet at classes (t .within))
+        (its-class (t .turn .above) (facts t) (t .few) row form sheet at classes (t .within))
 
     pub turn-class : classFor classes s ≤ 40
     turn-class = class-most classed
@@ -300,74 +296,69 @@ module _ {classes : Classes} {sheet : Text} {from : Place} {rows : List Security
     abbrev pub judgment : Number
     judgment = brokenOf count (standingIn held s .there) (held .count) last (s .number) (classFor classes s)
 
-    same : judgment ≡ broken (kindWith classes .others (t .above) row)
+    same : judgment ≡ broken (kindWith classes .others (t .turn .above) row)
     same =
         let judge : Currencies → ℕ → ℕ → SecurityRow → Number = λ held count last s.
         brokenOf count (standingIn held s .there) (held .count) last (s .number) (classFor classes s)
         in
-        (λ i. judge (t .held-are i) (t .going .counted i) (t .last-is i) (sym held-row i))
-        ∙ alike (t .above) (facts t) (t .few) row form sheet at classes (t .within)
+        (λ i. judge (t .held-are i) (t .turn .going .counted i) (t .last-is i) (sym held-row i))
+        ∙ alike (t .turn .above) (facts t) (t .few) row form sheet at classes (t .within)
 
     -- A rule that it breaks refuses the section
-    pub turn-broken : (number : ℕ) → number ≡ judgment → (number ≡ 0 → ⊥) → securitySection [] [] 0 (refused number count) ≡ result classes sheet from
-    turn-broken number is other =
-        ap (λ (n : ℕ). securitySection [] [] 0 (refused n count)) (is ∙ same)
-        ∙ result-refused (kindWith classes) sheet from made (securityTable (paperClasses classes)) _ count (r .line .refuses (λ none. other (is ∙ same ∙ none)))
+    pub turn-broken : (number : ℕ) → number ≡ judgment → (number ≡ 0 → ⊥) → rooms.refusedWith (room classes) number count ≡ rooms.result (room classes) sheet from
+    turn-broken number is = rooms.turn-broken (room classes) (t .turn) (r .on) (r .line) (is ∙ same)
 
     -- Where it breaks none the section goes on
     module _ (none : judgment ≡ 0) where
-      goes : Going (kindWith classes) sheet from (row ∷ t .above) (count + 1) next
-      goes = r .line .goes (sym same ∙ none)
+      goes : Going (kindWith classes) sheet from (row ∷ t .turn .above) (count + 1) next
+      goes = rooms.turn-going (room classes) (t .turn) (r .on) (r .line) same none
 
       pub turn-free : count < 200
-      turn-free = omega (arith, t .going .counted, kept-most (paperClasses classes) (goes .kept))
+      turn-free = omega (arith, t .turn .going .counted, kept-most (paperClasses classes) (goes .kept))
 
       -- The currencies held, with its own
       module _ (st : Standing) (stands : st ≡ standingIn held s) where
-        standing-is : rankedOf (moneyOf (t .above)) (ownMoney row) ≡ st
+        standing-is : rankedOf (moneyOf (t .turn .above)) (ownMoney row) ≡ st
         standing-is =
-            sym (stands ∙ (λ i. standingIn (t .held-are i) (sym held-row i)) ∙ its-standing (t .above) (facts t) (t .few) row form sheet at)
+            sym (stands ∙ (λ i. standingIn (t .held-are i) (sym held-row i)) ∙ its-standing (t .turn .above) (facts t) (t .few) row form sheet at)
 
-        there-is : rankedOf (moneyOf (t .above)) (ownMoney row) .there ≡ st .there
+        there-is : rankedOf (moneyOf (t .turn .above)) (ownMoney row) .there ≡ st .there
         there-is = ap (λ (s : Standing). s .there) standing-is
 
         pub turn-room : st .there ≡ false → held .count < 8
         turn-room e =
-            let has : hasCurrency (t .above) (row .currency) ≡ false = sym (rank-has (t .above) each-money (row .currency) (form .currency)) ∙ there-is ∙ e in
-            rw (t .held-are) (ltb→lt (length (currencies (t .above))) 8 (rw has at (eighth (paperClasses classes) (goes .kept))))
+            let has : hasCurrency (t .turn .above) (row .currency) ≡ false = sym (rank-has (t .turn .above) each-money (row .currency) (form .currency)) ∙ there-is ∙ e in
+            rw (t .held-are) (ltb→lt (length (currencies (t .turn .above))) 8 (rw has at (eighth (paperClasses classes) (goes .kept))))
 
-        pub turn-known : st .there ≡ true → held ≡ currencyTable (currencies (row ∷ t .above))
-        turn-known e = t .held-are ∙ ap currencyTable (sym (money-known (t .above) each-money row (form .currency) (there-is ∙ e)))
+        pub turn-known : st .there ≡ true → held ≡ currencyTable (currencies (row ∷ t .turn .above))
+        turn-known e = t .held-are ∙ ap currencyTable (sym (money-known (t .turn .above) each-money row (form .currency) (there-is ∙ e)))
 
-        pub turn-new : st .there ≡ false → insertedAt held (st .rank) (s .currency) ≡ currencyTable (currencies (row ∷ t .above))
+        pub turn-new : st .there ≡ false → insertedAt held (st .rank) (s .currency) ≡ currencyTable (currencies (row ∷ t .turn .above))
         turn-new e =
             (λ i. insertedAt (t .held-are i) (sym standing-is i .rank) (sym held-row i .currency))
-            ∙ money-new (t .above) each-money row (form .currency) (there-is ∙ e)
+            ∙ money-new (t .turn .above) each-money row (form .currency) (there-is ∙ e)
 
-        few-more : length (currencies (row ∷ t .above)) ≤ 8
+        few-more : length (currencies (row ∷ t .turn .above)) ≤ 8
         few-more = go (st .there) refl
           where
-            go : (b : Bool) → st .there ≡ b → length (currencies (row ∷ t .above)) ≤ 8
-            go true e = rw (money-known (t .above) each-money row (form .currency) (there-is ∙ e)) (t .few)
+            go : (b : Bool) → st .there ≡ b → length (currencies (row ∷ t .turn .above)) ≤ 8
+            go true e = rw (money-known (t .turn .above) each-money row (form .currency) (there-is ∙ e)) (t .few)
             go false e =
-                omega (arith, money-longer (t .above) each-money row (form .currency) (there-is ∙ e), turn-room e, ap (λ (c : Currencies). c .count) (t .held-are))
+                omega (arith, money-longer (t .turn .above) each-money row (form .currency) (there-is ∙ e), turn-room e, ap (λ (c : Currencies). c .count) (t .held-are))
 
-        pub turn-more : (more : Currencies) → more ≡ currencyTable (currencies (row ∷ t .above))
+        pub turn-more : (more : Currencies) → more ≡ currencyTable (currencies (row ∷ t .turn .above))
             → Turn classes sheet from (set rows count (securityOf s (classFor classes s))) (set codes count (s .number)) (set money count (s .currency)) more (s .number) (count + 1) next
         turn-more more is =
             record {
               within = t .within;
-              above = row ∷ t .above;
-              going = goes;
-              table =
-                  ap₂ (λ (s : SecurityRow) (class : Class). set rows count (securityOf s class)) (sym held-row) (class-is classed)
-                  ∙ table-more 200 noSecurity (unranked (paperClasses classes)) (t .above) (t .table) (t .going .counted) row turn-free;
+              turn =
+                  rooms.turn-more (room classes) (t .turn) (r .on) (r .line) same none turn-free (ap₂ securityOf (sym held-row) (class-is classed));
               codes-are =
                   ap (λ (s : SecurityRow). set codes count (s .number)) (sym held-row)
-                  ∙ table-more 256 highest codeOf (t .above) (t .codes-are) (t .going .counted) row (omega (arith, turn-free));
+                  ∙ table-more 256 highest codeOf (t .turn .above) (t .codes-are) (t .turn .going .counted) row (omega (arith, turn-free));
               money-are =
                   ap (λ (s : SecurityRow). set money count (s .currency)) (sym held-row)
-                  ∙ table-more 200 0 ownMoney (t .above) (t .money-are) (t .going .counted) row turn-free;
+                  ∙ table-more 200 0 ownMoney (t .turn .above) (t .money-are) (t .turn .going .counted) row turn-free;
               held-are = is;
               few = few-more;
               last-is = ap (λ (s : SecurityRow). s .number) (sym held-row);

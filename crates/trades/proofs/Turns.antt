@@ -1,14 +1,13 @@
--- The loop over the T rows, turn by turn: the table has the rows above, and what the code makes of a row, by the table of the
--- securities, is what the paper makes of it.
+-- The T section's room, and what the code makes of a row, by the table of the securities: what the paper makes of it.
 use Prim.Native.Nat.{ℕ, _+_, _≤_, _<_}
 use native.Mathlib.Omega.{arith}
 use mathlib.Core.Bool.{Bool, true, false, cond, _&&_}
-use mathlib.Core.List.{List, [], _∷_, reverse}
+use mathlib.Core.List.{List, [], _∷_}
 use mathlib.Core.Option.{Option, none, some, Option·getD}
 use mathlib.Core.Path.{_≡_, refl, sym, ap, _∙_}
 use borrow.Author.Tests.{ltb-true}
 use lib.Dec.{eqb, leb, ltb}
-use lib.ListN.{length, getD, take, set, length-reverse}
+use lib.ListN.{length, getD, take}
 use Rattle.paper.specs.Units.{Text, Number, Date, Day}
 use Rattle.paper.specs.Days.{dayOf, isDay, day, workingAfter}
 use Rattle.paper.specs.Lists.{given}
@@ -16,37 +15,25 @@ use Rattle.paper.specs.Text.{isCode}
 use Rattle.paper.specs.Rows as paper
 use Rattle.paper.specs.Rows.{repo, cash, seller, purchaser}
 use Rattle.paper.specs.Valuation.{lastDay, margined, accrualDay}
-use Rattle.paper.specs.Refusals.{refused, RowKind, Period, inPeriod, tradeKind}
+use Rattle.paper.specs.Refusals.{RowKind, Period, inPeriod, tradeKind}
 use Rattle.paper.proofs.Days.{day-below}
 use Rattle.paper.proofs.Lists.{never, tests}
 use Rattle.paper.proofs.Rules.{TradeFacts, trade-facts}
 use Rattle.fields.specs.Places.{Place, endedLength}
 use Rattle.tables.specs.Numbers.{tradeNumber, sideNumber, numberPlace}
-use Rattle.tables.specs.Padded.{tableOf}
 use Rattle.tables.specs.Held.{noSecurity, noTrade, heldTrade, tradeTable}
 use Rattle.tables.specs.declared.Securities.{Securities}
 use Rattle.tables.specs.declared.Trade.{Trade}
 use Rattle.tables.specs.declared.Trades.{Trades}
-use Rattle.tables.proofs.Padded.{table-more}
 use Rattle.sections.specs.Sections.{goesOn, broken}
-use Rattle.sections.proofs.Loops as loops
-use Rattle.sections.proofs.Loops.{Kept, more-kept, Words, Going, going-start, going-ended, line-refused, LineRow, line-row, result-refused, result-ended}
-use Rattle.sections.specs.declared.Section.{Section}
-use Rattle.trades.specs.Read.{heldRow, tradeRead}
+use Rattle.sections.proofs.Loops.{Kept, more-kept}
+use Rattle.sections.proofs.Rooms.{Room, Turn, Read, turn-kept}
+use Rattle.trades.specs.Read.{heldRow}
 use Rattle.trades.specs.Found.{periodOf, periodIn, marginedOn, periodHolds, brokenOf, Small, tradeOf}
-use Rattle.trades.specs.Section.{tradeSection}
 use Rattle.trades.specs.declared.TradeRow.{TradeRow}
+use Rattle.trades.specs.declared.TradeRead.{TradeRead}
 use Rattle.trades.specs.declared.TradeRead.the-variants as reads
 use Rattle.trades.specs.declared.TradeSection.{TradeSection}
-
--- How the code says a row and a refusal
-pub words : Words reads.Refused (λ (t : TradeRow) (next : Place). reads.Row t next)
-words =
-    record {
-      apart = λ number t next e. let z : _≡_ {A = ℕ} 0 1 = cc in absurd (omega arith);
-      one = λ t u m n e. (cc, cc);
-      number = λ m n e. cc;
-    }
 
 -- ---- the rules
 
@@ -171,90 +158,54 @@ module _ (today working : Day) (securities : Securities) where
 
 -- ---- the turns
 
--- After so many rows
-pub record Turn (today : Day) (securities : Securities) (sheet : Text) (from : Place) (rows : List Trade) (count : ℕ) (at : Place) : Type 0 where
-  pub above : List paper.TradeRow
-  pub going : Going (tradeKind today (periodIn securities)) sheet from above count at
-  pub table : rows ≡ tableOf 500 noTrade (heldTrade today (take (securities .count) (securities .codes))) (reverse above)
+module _ (today : Day) (securities : Securities) where
+  -- The room
+  abbrev pub room : Room paper.TradeRow TradeRead TradeRow Trade TradeSection Trades
+  room =
+      record {
+        kind = tradeKind today (periodIn securities);
+        numbers = λ above t. refl;
+        letter = 84;
+        its-letter = refl;
+        refuse = reads.Refused;
+        row = λ t next. reads.Row t next;
+        words = record {
+          apart = λ number t next e. let z : _≡_ {A = ℕ} 0 1 = cc in absurd (omega arith);
+          one = λ t u m n e. (cc, cc);
+          number = λ m n e. cc;
+        };
+        held = heldRow;
+        most = 500;
+        free = noTrade;
+        kept = heldTrade today (take (securities .count) (securities .codes));
+        make = λ section table. record { section = section; table = table };
+        table = tradeTable today (take (securities .count) (securities .codes));
+      }
 
--- The section, as the code holds it
-abbrev made : Section → Trades → TradeSection
-made section table = record { section = section; table = table }
+module _ (today : Day) (securities : Securities) {sheet : Text} {from : Place} {rows : List Trade} {count : ℕ} {at : Place}
+    (turn : Turn (room today securities) sheet from rows count at) (on : goesOn sheet at (endedLength sheet) 84 ≡ true)
+    {t : TradeRow} {next : Place} (read : Read (room today securities) turn on t next) {working : Day} (is-working : working ≡ workingAfter today) where
+  -- A row that was read is judged as the paper judges it
+  pub same : brokenRow today working securities count t ≡ broken (tradeKind today (periodIn securities) .others (turn .above) (read .row-is))
+  same =
+      let own = read .own in
+      let coded : isCode (read .row-is .code) ≡ true = search tests in
+      rw (turn .going .counted, sym (read .held-is)) (judged-alike today working securities is-working sheet at (read .row-is) (turn .above) coded)
 
-module _ (today : Day) (securities : Securities) (sheet : Text) (from : Place) where
-  abbrev table : List paper.TradeRow → Trades
-  table = tradeTable today (take (securities .count) (securities .codes))
+  module _ (none : brokenRow today working securities count t ≡ 0) where
+    room-there : (ltb count 500 ≡ true) × (ltb (placeOf today working securities t) (securities .count) ≡ true)
+    room-there = unbroken _ _ (within today working securities t) none
 
-  abbrev pub result : TradeSection
-  result = loops.result (tradeKind today (periodIn securities)) sheet from made table
+    pub turn-free : count < 500
+    turn-free = ltb-true count 500 (room-there .0)
 
-  pub turn-start : from ≤ endedLength sheet → Turn today securities sheet from (tradeTable 0 [] [] .rows) 0 from
-  turn-start h = record { above = []; going = going-start (tradeKind today (periodIn securities)) sheet from h; table = refl }
+    pub turn-small : Small t
+    turn-small = rw (sym (read .held-is)) (go (turn-kept (room today securities) turn on read same none))
+      where
+        go : Kept (tradeKind today (periodIn securities)) (read .row-is ∷ turn .above) → Small (heldRow sheet at (read .row-is))
+        go (more-kept h kept) = small sheet at (read .row-is) (trade-facts today (periodIn securities) (turn .above) (read .row-is) h)
 
-module _ {today : Day} {securities : Securities} {sheet : Text} {from : Place} {rows : List Trade} {count : ℕ} {at : Place}
-    (turn : Turn today securities sheet from rows count at) where
-  abbrev ours : RowKind paper.TradeRow
-  ours = kind today 0 securities
-
-  module _ (on : goesOn sheet at (endedLength sheet) 84 ≡ true) where
-    -- A line that is refused by itself refuses the section
-    pub turn-refused : (number : ℕ) → tradeRead sheet at ≡ reads.Refused number
-        → tradeSection 0 [] [] 0 (refused number count) ≡ result today securities sheet from
-    turn-refused number e =
-        result-refused ours sheet from made (table today securities sheet from) number count
-        (line-refused ours (λ above t. refl) 84 refl words (heldRow sheet at) (turn .going) on number e)
-
-    -- A row that was read
-    abbrev pub Read : TradeRow → Place → Type 0
-    Read = LineRow ours (λ above t. refl) 84 refl words (heldRow sheet at) (turn .going) on
-
-    pub turn-row : (t : TradeRow) (next : Place) → tradeRead sheet at ≡ reads.Row t next → Read t next
-    turn-row = line-row ours (λ above t. refl) 84 refl words (heldRow sheet at) (turn .going) on
-
-    module _ {t : TradeRow} {next : Place} (read : Read t next) {working : Day} (is-working : working ≡ workingAfter today) where
-      -- It is judged as the paper judges it
-      same : brokenRow today working securities count t ≡ broken (ours .others (turn .above) (read .row-is))
-      same =
-          let own = read .own in
-          let coded : isCode (read .row-is .code) ≡ true = search tests in
-          rw (turn .going .counted, sym (read .held-is)) (judged-alike today working securities is-working sheet at (read .row-is) (turn .above) coded)
-
-      pub turn-broken : (brokenRow today working securities count t ≡ 0 → ⊥)
-          → tradeSection 0 [] [] 0 (refused (brokenRow today working securities count t) count) ≡ result today securities sheet from
-      turn-broken other =
-          ap (λ (n : ℕ). tradeSection 0 [] [] 0 (refused n count)) same
-          ∙ result-refused ours sheet from made (table today securities sheet from) _ count (read .refuses (λ none. other (same ∙ none)))
-
-      module _ (none : brokenRow today working securities count t ≡ 0) where
-        room-there : (ltb count 500 ≡ true) × (ltb (placeOf today working securities t) (securities .count) ≡ true)
-        room-there = unbroken _ _ (within today working securities t) none
-
-        pub turn-free : count < 500
-        turn-free = ltb-true count 500 (room-there .0)
-
-        more : Going ours sheet from (read .row-is ∷ turn .above) (count + 1) next
-        more = read .goes (sym same ∙ none)
-
-        pub turn-small : Small t
-        turn-small = rw (sym (read .held-is)) (go (more .kept))
-          where
-            go : Kept ours (read .row-is ∷ turn .above) → Small (heldRow sheet at (read .row-is))
-            go (more-kept h kept) = small sheet at (read .row-is) (trade-facts today (periodIn securities) (turn .above) (read .row-is) h)
-
-        pub turn-more : Turn today securities sheet from (set rows count (keptRow today working securities t)) (count + 1) next
-        turn-more =
-            record {
-              above = read .row-is ∷ turn .above;
-              going = more;
-              table =
-                  ap (set rows count) (rw (sym (read .held-is)) (kept-alike today working securities is-working sheet at (read .row-is) (rw (sym (read .held-is)) at (room-there .1))))
-                  ∙ table-more 500 noTrade (heldTrade today (codes today working securities)) (turn .above) (turn .table) (turn .going .counted) (read .row-is) turn-free;
-            }
-
-  -- The end of the section
-  pub turn-ended : goesOn sheet at (endedLength sheet) 84 ≡ false
-      → made (record { refusal = 0; count = count; next = at }) (record { count = count; rows = rows }) ≡ result today securities sheet from
-  turn-ended off =
-      let many : count ≡ length (reverse (turn .above)) = turn .going .counted ∙ sym (length-reverse (turn .above)) in
-      result-ended ours sheet from made (table today securities sheet from) (turn .going) (going-ended ours (λ above t. refl) 84 refl (turn .going) off) _
-      (λ i. record { count = many i; rows = turn .table i })
+    -- ... and kept as the paper's row is
+    pub kept-is : keptRow today working securities t ≡ heldTrade today (codes today working securities) (read .row-is)
+    kept-is =
+        rw (sym (read .held-is)) (kept-alike today working securities is-working sheet at (read .row-is) (rw (sym (read .held-is)) at (room-there .1)))

@@ -3,7 +3,7 @@
 use Prim.Native.Nat.{ℕ, _-_, _<_}
 use native.Mathlib.Omega.{arith}
 use mathlib.Core.List.{[]}
-use mathlib.Core.Path.{_≡_, sym, ap, _∙_}
+use mathlib.Core.Path.{_≡_, refl, sym, ap, _∙_}
 use borrow.Author.Needs.{needs}
 use Rattle.paper.specs.Refusals.{refused}
 use Rattle.fields.specs.Places.{Place, endedLength}
@@ -12,7 +12,8 @@ use Rattle.sections.proofs.Loops.{goes-before}
 use Rattle.classes.specs.Read.{classNumber}
 use Rattle.classes.specs.Seen.{brokenOf}
 use Rattle.classes.specs.Section.{classSection}
-use Rattle.classes.proofs.Turns.{Turn, turn-start, turn-refused, Read, turn-row, turn-kind, turn-border, turn-broken, turn-free, turn-more, turn-ended}
+use Rattle.sections.proofs.Rooms.{turn-start, turn-refused, Read, turn-row, turn-broken, turn-counted, turn-ended}
+use Rattle.classes.proofs.Turns.{room, Turn, judged, turn-kind, turn-border, turn-free, turn-more}
 use Rattle.classes.proofs.class_section.Statement.{statement}
 use Rattle.classes.proofs.class_section.Tie as tie
 
@@ -31,7 +32,8 @@ none-seen-requires c κs = search needs
 loop-holds : tie.Need-loop-holds Inv-loop μ-loop
 loop-holds c =
     let e = c .before .before .before .before in
-    rw (c .before .before .no-classes .ensures, c .none-seen .ensures) (turn-start (e .args .s .now) (e .args .from) (omega arith))
+    rw (c .before .before .no-classes .ensures, c .none-seen .ensures)
+    (record { turn = turn-start room (e .args .s .now) (e .args .from) (omega arith); seen-is = refl })
 
 goes-on-requires : tie.Need-goes-on-requires Inv-loop μ-loop
 goes-on-requires c κs = (c .before .before .before .before .before .pre .1, λ e. omega arith, λ e. omega arith)
@@ -68,17 +70,17 @@ returns c =
     let read = c .before .before .enum-told .given .1 in
     c .refused .ensures
     ∙ ap (λ (n : ℕ). classSection [] 0 (refused n (t .before .before .loop .count))) (c .before .class-number .ensures ∙ ap classNumber read)
-    ∙ turn-refused (t .before .before .loop .inv) (tested (t .before) ∙ t .if1 .taken) _ (sym (r .class-row .ensures) ∙ read)
+    ∙ turn-refused room (t .before .before .loop .inv .turn) (tested (t .before) ∙ t .if1 .taken) _ (sym (r .class-row .ensures) ∙ read)
 
 -- A row that was read is one of the paper's
 abbrev turn : tie.After-known-told Inv-loop μ-loop → tie.Then1 Inv-loop μ-loop
 turn c = c .before .before .before .before
 
 there : (c : tie.After-known-told Inv-loop μ-loop)
-    → Read (turn c .before .before .loop .inv) (tested (turn c .before) ∙ turn c .if1 .taken) (c .before .read .given .0 .0) (c .before .read .given .0 .1 .0)
+    → Read room (turn c .before .before .loop .inv .turn) (tested (turn c .before) ∙ turn c .if1 .taken) (c .before .read .given .0 .0) (c .before .read .given .0 .1 .0)
 there c =
     let t = turn c in
-    turn-row (t .before .before .loop .inv) (tested (t .before) ∙ t .if1 .taken) _ _ (sym (c .before .before .before .class-row .ensures) ∙ c .before .read .given .1)
+    turn-row room (t .before .before .loop .inv .turn) (tested (t .before) ∙ t .if1 .taken) _ _ (sym (c .before .before .before .class-row .ensures) ∙ c .before .read .given .1)
 
 broken-requires : tie.Need-broken-requires Inv-loop μ-loop
 broken-requires c κs = turn-kind (turn c .before .before .loop .inv) (tested (turn c .before) ∙ turn c .if1 .taken) (there c)
@@ -90,8 +92,10 @@ returns-2 : tie.Need-returns-2 Inv-loop μ-loop
 returns-2 c =
     let b = c .before .before in
     let t = turn (b .before) in
-    c .refused2 .ensures ∙ ap (λ (n : ℕ). classSection [] 0 (refused n (t .before .before .loop .count))) (b .broken .ensures)
-    ∙ turn-broken (t .before .before .loop .inv) (tested (t .before) ∙ t .if1 .taken) (there (b .before)) (λ none. c .before .if2 .taken (b .broken .ensures ∙ none))
+    let on = tested (t .before) ∙ t .if1 .taken in
+    c .refused2 .ensures
+    ∙ turn-broken room (t .before .before .loop .inv .turn) on (there (b .before)) (b .broken .ensures ∙ judged (t .before .before .loop .inv) on (there (b .before)))
+    (c .before .if2 .taken)
 
 -- It breaks no rule
 unbroken : (c : tie.Else2 Inv-loop μ-loop)
@@ -132,7 +136,10 @@ loop-again c =
     rw (c .after .ensures) (turn-more (t .before .before .loop .inv) (tested (t .before) ∙ t .if1 .taken) (there (c .before .before .before)) (unbroken (c .before)))
 
 returns-3 : tie.Need-returns-3 Inv-loop μ-loop
-returns-3 c = turn-ended (c .before .before .loop .inv) (tested (c .before) ∙ c .if1 .left)
+returns-3 c =
+    let t = c .before .before .loop .inv .turn in
+    let many = turn-counted room t in
+    turn-ended room t (tested (c .before) ∙ c .if1 .left) (λ i. record { count = many i; rows = t .table-is i })
 
 pub class-section-spec : {M : Type 1} → statement M
 class-section-spec =

@@ -17,7 +17,8 @@ use Rattle.securities.specs.Classes.{classIn}
 use Rattle.securities.specs.declared.Columns.{Columns}
 use Rattle.securities.specs.declared.Standing.{Standing}
 use Rattle.securities.specs.Section.{brokenOf, securitySection}
-use Rattle.securities.proofs.Turns.{Turn, turn-start, classFor, turn-refused, Read, turn-row}
+use Rattle.sections.proofs.Rooms.{turn-refused}
+use Rattle.securities.proofs.Turns.{room, Turn, turn-start, classFor, Read, turn-row}
 use Rattle.securities.proofs.Turns.{turn-small, turn-class, turn-further, judgment, turn-broken, turn-free, turn-room, turn-known, turn-new, turn-more, turn-most, turn-ended}
 use Rattle.securities.proofs.security_section.Statement.{statement}
 use Rattle.securities.proofs.security_section.Tie as tie
@@ -85,7 +86,7 @@ returns c =
     let read = c .before .before .enum-told .given .1 in
     c .refused .ensures
     ∙ ap (λ (n : ℕ). securitySection [] [] 0 (refused n (l .loop .count))) (c .before .security-number .ensures ∙ ap securityNumber read)
-    ∙ turn-refused (l .loop .inv) (tested (t .before) ∙ t .if1 .taken) _ (sym (r .security-row .ensures) ∙ read)
+    ∙ turn-refused (room (start l .args .classes)) (l .loop .inv .turn) (tested (t .before) ∙ t .if1 .taken) _ (sym (r .security-row .ensures) ∙ read)
 
 -- A row that was read is one of the paper's
 abbrev turn : tie.After-known-told Inv-loop μ-loop → tie.Then1 Inv-loop μ-loop

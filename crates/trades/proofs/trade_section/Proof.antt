@@ -7,20 +7,27 @@ use mathlib.Core.List.{[]}
 use mathlib.Core.Path.{_≡_, sym, ap, _∙_}
 use borrow.Author.Needs.{needs}
 use lib.Dec.{eqb}
+use Rattle.paper.specs.Rows as paper
 use Rattle.paper.specs.Refusals.{refused}
 use Rattle.fields.specs.Places.{Place, endedLength}
+use Rattle.tables.specs.declared.Trade.{Trade}
+use Rattle.tables.specs.declared.Trades.{Trades}
 use Rattle.sections.specs.Sections.{goesOn}
 use Rattle.sections.proofs.Loops.{goes-before}
 use Rattle.trades.specs.Read.{readNumber}
 use Rattle.trades.specs.Found.{tradeOf}
 use Rattle.trades.specs.Section.{tradeSection}
 use Rattle.trades.specs.declared.TradeRow.{TradeRow}
-use Rattle.trades.proofs.Turns.{place-below, accrual-below, knownOf, brokenRow, keptRow, Turn, turn-start, turn-refused, Read, turn-row, turn-broken, turn-free, turn-small, turn-more, turn-ended}
+use Rattle.trades.specs.declared.TradeRead.{TradeRead}
+use Rattle.trades.specs.declared.TradeSection.{TradeSection}
+use Rattle.sections.proofs.Rooms.{Room, Turn, turn-start, turn-refused, Read, turn-row, turn-broken, turn-more, turn-counted, turn-ended}
+use Rattle.trades.proofs.Turns.{place-below, accrual-below, knownOf, brokenRow, keptRow, room, same, turn-free, turn-small, kept-is}
 use Rattle.trades.proofs.trade_section.Statement.{statement}
 use Rattle.trades.proofs.trade_section.Tie as tie
 
 abbrev Inv-loop : tie.InvT-loop
-Inv-loop s years from end today working securities codes held rows₀ count₀ at₀ rows count at = Turn today securities s from rows count at
+Inv-loop s years from end today working securities codes held rows₀ count₀ at₀ rows count at =
+    Turn (room today securities) s from rows count at
 
 abbrev μ-loop : tie.MeasureT-loop
 μ-loop s years from end today working securities codes held rows₀ count₀ at₀ rows count at = end - at
@@ -31,10 +38,14 @@ no-trades-requires c κs = search needs
 abbrev begin : tie.At-loop Inv-loop μ-loop → tie.Start Inv-loop μ-loop
 begin l = l .before .before .before .before .before .before
 
+-- Its room
+abbrev its-room : tie.At-loop Inv-loop μ-loop → Room paper.TradeRow TradeRead TradeRow Trade TradeSection Trades
+its-room l = room (begin l .args .today) (begin l .args .securities)
+
 loop-holds : tie.Need-loop-holds Inv-loop μ-loop
 loop-holds c =
     let a = c .before .before .before .before .before .args in
-    rw (c .before .no-trades .ensures) (turn-start (a .today) (a .securities) (a .s .now) (a .from) (omega arith))
+    rw (c .before .no-trades .ensures) (turn-start (room (a .today) (a .securities)) (a .s .now) (a .from) (omega arith))
 
 goes-on-requires : tie.Need-goes-on-requires Inv-loop μ-loop
 goes-on-requires c κs = (begin c .pre .0 .1, λ e. omega arith, λ e. omega arith)
@@ -74,17 +85,17 @@ returns c =
     let read = c .before .before .enum-told .given .1 in
     c .refused .ensures
     ∙ ap (λ (n : ℕ). tradeSection 0 [] [] 0 (refused n (t .before .before .loop .count))) (c .before .trade-number .ensures ∙ ap readNumber read)
-    ∙ turn-refused (t .before .before .loop .inv) (on t) _ (sym (r .trade-row .ensures) ∙ read)
+    ∙ turn-refused (its-room (t .before .before)) (t .before .before .loop .inv) (on t) _ (sym (r .trade-row .ensures) ∙ read)
 
 -- A row that was read is one of the paper's
 abbrev turn : tie.After-known-told Inv-loop μ-loop → tie.Then1 Inv-loop μ-loop
 turn c = c .before .before .before .before
 
 there : (c : tie.After-known-told Inv-loop μ-loop)
-    → Read (turn c .before .before .loop .inv) (on (turn c)) (c .before .read .given .0 .0) (c .before .read .given .0 .1 .0)
+    → Read (its-room (turn c .before .before)) (turn c .before .before .loop .inv) (on (turn c)) (c .before .read .given .0 .0) (c .before .read .given .0 .1 .0)
 there c =
     let t = turn c in
-    turn-row (t .before .before .loop .inv) (on t) _ _ (sym (c .before .before .before .trade-row .ensures) ∙ c .before .read .given .1)
+    turn-row (its-room (t .before .before)) (t .before .before .loop .inv) (on t) _ _ (sym (c .before .before .before .trade-row .ensures) ∙ c .before .read .given .1)
 
 find-requires : tie.Need-find-requires Inv-loop μ-loop
 find-requires c κs = begin (turn (c .before) .before .before) .pre .1
@@ -143,8 +154,10 @@ returns-2 c =
     let b = c .before .before in
     let r = row (judging b) in
     let t = turn r in
-    c .refused2 .ensures ∙ ap (λ (n : ℕ). tradeSection 0 [] [] 0 (refused n (t .before .before .loop .count))) (judged b)
-    ∙ turn-broken (t .before .before .loop .inv) (on t) (there r) (begin (t .before .before) .pre .0 .3) (λ none. c .before .if2 .taken (judged b ∙ none))
+    let inv = t .before .before .loop .inv in
+    let a = begin (t .before .before) .args in
+    c .refused2 .ensures
+    ∙ turn-broken (its-room (t .before .before)) inv (on t) (there r) (judged b ∙ same (a .today) (a .securities) inv (on t) (there r) (begin (t .before .before) .pre .0 .3)) (c .before .if2 .taken)
 
 -- It breaks no rule
 module _ (c : tie.Else2 Inv-loop μ-loop) where
@@ -161,12 +174,13 @@ module _ (c : tie.Else2 Inv-loop μ-loop) where
   unbroken = sym (judged (c .before)) ∙ c .if2 .left
 
   free : its-loop .loop .count < 500
-  free = turn-free (its-loop .loop .inv) (on (turn its-row)) (there its-row) (begin its-loop .pre .0 .3) unbroken
+  free = turn-free (begin its-loop .args .today) (begin its-loop .args .securities) (its-loop .loop .inv) (on (turn its-row)) (there its-row) (begin its-loop .pre .0 .3) unbroken
 
 trade-of-requires : tie.Need-trade-of-requires Inv-loop μ-loop
 trade-of-requires c κs =
     let l = its-loop c in
-    let few = turn-small (l .loop .inv) (on (turn (its-row c))) (there (its-row c)) (begin l .pre .0 .3) (unbroken c) in
+    let a = begin l .args in
+    let few = turn-small (a .today) (a .securities) (l .loop .inv) (on (turn (its-row c))) (there (its-row c)) (begin l .pre .0 .3) (unbroken c) in
     let j = judging (c .before) in
     (few, known-below (j .before .before .before), rw (j .accrual-day .ensures) (accrual-below (eqb (its-read c .trade) 1) (few .first) (begin l .pre .0 .4)))
 
@@ -193,10 +207,19 @@ kept c =
 loop-again : tie.Need-loop-again Inv-loop μ-loop
 loop-again c =
     let e = c .before in
-    rw (kept c) (turn-more (its-loop e .loop .inv) (on (turn (its-row e))) (there (its-row e)) (begin (its-loop e) .pre .0 .3) (unbroken e))
+    let l = its-loop e in
+    let r = there (its-row e) in
+    let a = begin l .args in
+    let w = begin l .pre .0 .3 in
+    turn-more (its-room l) (l .loop .inv) (on (turn (its-row e))) r (judged (e .before) ∙ same (a .today) (a .securities) (l .loop .inv) (on (turn (its-row e))) r w) (e .if2 .left) (free e)
+    (kept c ∙ kept-is (a .today) (a .securities) (l .loop .inv) (on (turn (its-row e))) r w (unbroken e))
 
 returns-3 : tie.Need-returns-3 Inv-loop μ-loop
-returns-3 c = turn-ended (c .before .before .loop .inv) (tested (c .before) ∙ c .if1 .left)
+returns-3 c =
+    let l = c .before .before in
+    let t = l .loop .inv in
+    let many = turn-counted (its-room l) t in
+    turn-ended (its-room l) t (tested (c .before) ∙ c .if1 .left) (λ i. record { count = many i; rows = t .table-is i })
 
 pub trade-section-spec : {M : Type 1} → statement M
 trade-section-spec =
