@@ -1,9 +1,9 @@
 -- A C row by the readings of its fields.
 use Prim.Native.Nat.{ℕ}
 use native.Mathlib.Omega.{arith}
-use mathlib.Core.Bool.{Bool, true, false, cond, _&&_}
+use mathlib.Core.Bool.{Bool, true, cond, _&&_}
 use mathlib.Core.Option.{Option, Option·map, Option·getD}
-use mathlib.Core.Path.{_≡_, refl, sym, ap, _∙_}
+use mathlib.Core.Path.{_≡_, sym, _∙_}
 use lib.Dec.{leb, ltb}
 use Rattle.paper.specs.Units.{Text, Fields}
 use Rattle.paper.specs.Lists.{between}
@@ -12,9 +12,9 @@ use Rattle.paper.specs.Rows.{field, kindIn, readClass}
 use Rattle.paper.specs.Refusals.{isDuration, classKind}
 use Rattle.tables.specs.Numbers.{kindNumber}
 use Rattle.tables.specs.Held.{heldClass}
-use Rattle.fields.specs.Places.{Place, lineAt, fieldText}
+use Rattle.places.specs.Places.{Place, lineAt, fieldText}
 use Rattle.fields.specs.Values.{orHighest, isRead, rangedIn, durationIn}
-use Rattle.fields.specs.declared.Line.{Line}
+use Rattle.places.specs.declared.Line.{Line}
 use Rattle.fields.proofs.Readings.{kind-read}
 use Rattle.sections.specs.Sections.{fieldsAt}
 use Rattle.sections.proofs.Reading.{Lined, split, from-zero, closed, so-many, one-rule, lettered, ranged, lasting}

@@ -4,7 +4,7 @@ use Prim.Native.Nat.{ℕ, _+_, _≤_, _<_}
 use native.Mathlib.Omega.{arith}
 use mathlib.Core.Bool.{Bool, true, false}
 use mathlib.Core.List.{List, _∷_}
-use mathlib.Core.Path.{_≡_, refl, sym, ap, ap₂, _∙_}
+use mathlib.Core.Path.{_≡_, refl, sym, ap, ap₂}
 use lib.Dec.{T, ltb}
 use lib.ListN.{length, set}
 use Rattle.paper.specs.Units.{Text}
@@ -12,7 +12,7 @@ use Rattle.paper.specs.Rows as paper
 use Rattle.paper.specs.Refusals.{classKind}
 use Rattle.paper.specs.Tables.{hold}
 use Rattle.paper.proofs.Lists.{tests}
-use Rattle.fields.specs.Places.{Place, endedLength}
+use Rattle.places.specs.Places.{Place, endedLength}
 use Rattle.tables.specs.Held.{noClass, heldClass, classTable}
 use Rattle.tables.specs.declared.ClassRow.{ClassRow}
 use Rattle.tables.specs.declared.Classes.{Classes}
@@ -20,7 +20,7 @@ use Rattle.sections.specs.Sections.{goesOn, broken}
 use Rattle.sections.proofs.Loops.{Kept, none-kept, more-kept}
 use Rattle.sections.proofs.Rooms as rooms
 use Rattle.sections.proofs.Rooms.{Room, turn-kept}
-use Rattle.classes.specs.Seen.{afterOf, seenOf, rowFits, brokenOf}
+use Rattle.classes.specs.Seen.{afterOf, seenOf, brokenOf}
 use Rattle.classes.specs.declared.ClassRead.{ClassRead}
 use Rattle.classes.specs.declared.ClassRead.the-variants as reads
 use Rattle.classes.specs.declared.Seen.{Seen}

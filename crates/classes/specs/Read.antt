@@ -2,7 +2,7 @@
 use mathlib.Core.Bool.{Bool, cond}
 use Rattle.paper.specs.Units.{Text, Number}
 use Rattle.paper.specs.Refusals.{classKind}
-use Rattle.fields.specs.Places.{Place, lineAt}
+use Rattle.places.specs.Places.{Place, lineAt}
 use Rattle.tables.specs.Held.{heldClass}
 use Rattle.tables.specs.declared.ClassRow.{ClassRow}
 use Rattle.sections.specs.Sections.{fieldsAt, shaped, told}

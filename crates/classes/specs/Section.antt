@@ -4,7 +4,7 @@ use Rattle.paper.specs.Units.{Text}
 use Rattle.paper.specs.Rows.{ClassRow}
 use Rattle.paper.specs.Refusals.{Outcome}
 use Rattle.paper.specs.Sheet.{Rest}
-use Rattle.fields.specs.Places.{Place}
+use Rattle.places.specs.Places.{Place}
 use Rattle.tables.specs.Held.{classTable}
 use Rattle.sections.specs.Sections.{sectionOf, rowsIn}
 use Rattle.classes.specs.declared.ClassSection.{ClassSection}

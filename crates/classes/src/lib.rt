@@ -1,6 +1,6 @@
 // C rows: read from their lines, judged by those above, and put into their table; the section is their table, or the refusal of
 // one. Of the rows above, what judges a row is kept: refusal 9 in constant time.
-use fields::Place;
+use places::Place;
 use sections::Number;
 use sections::Section;
 use tables::ClassRow;
@@ -12,7 +12,7 @@ ghost use lib.ListN.{drop};
 ghost use Rattle.paper.specs.Refusals.{refused, classKind};
 ghost use Rattle.paper.specs.Text.{lines};
 ghost use Rattle.paper.specs.Sheet.{section};
-ghost use Rattle.fields.specs.Places.{endedLength};
+ghost use Rattle.places.specs.Places.{endedLength};
 ghost use Rattle.classes.specs.Read.{takenOf, classRead, classNumber};
 ghost use Rattle.classes.specs.Seen.{seenOf, fitsOf, afterOf, brokenOf};
 ghost use Rattle.classes.specs.Section.{classSection};
@@ -57,7 +57,7 @@ fn class_row(s: &[u8], at: Place, end: Place) -> ClassRead
     requires { ⌜ (at < end) × (end ≡ endedLength (now s)) ⌝ }
     ensures { λ r. ⌜ r ≡ classRead (now (s .entry)) at ⌝ }
 {
-    let line = fields::line_at(s, at, end);
+    let line = places::line_at(s, at, end);
     if line.count != 5 {
         return ClassRead::Refused(5);
     }

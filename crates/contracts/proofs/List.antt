@@ -30,8 +30,8 @@ use Rattle.tables.proofs.no_currencies.Reads as tables-no-currencies
 use Rattle.tables.proofs.no_securities.Reads as tables-no-securities
 use Rattle.tables.proofs.no_trades.Reads as tables-no-trades
 use Rattle.tables.proofs.no_tables.Reads as tables-no-tables
-use Rattle.fields.proofs.ended.Reads as fields-ended
-use Rattle.fields.proofs.line_at.Reads as fields-line-at
+use Rattle.places.proofs.ended.Reads as places-ended
+use Rattle.places.proofs.line_at.Reads as places-line-at
 use Rattle.fields.proofs.number_at.Reads as fields-number-at
 use Rattle.fields.proofs.rate_at.Reads as fields-rate-at
 use Rattle.fields.proofs.duration_at.Reads as fields-duration-at
@@ -41,7 +41,7 @@ use Rattle.fields.proofs.kind_at.Reads as fields-kind-at
 use Rattle.fields.proofs.letter_at.Reads as fields-letter-at
 use Rattle.fields.proofs.code_at.Reads as fields-code-at
 use Rattle.fields.proofs.currency_at.Reads as fields-currency-at
-use Rattle.fields.proofs.is_blank.Reads as fields-is-blank
+use Rattle.places.proofs.is_blank.Reads as places-is-blank
 use Rattle.fields.proofs.is_read.Reads as fields-is-read
 use Rattle.fields.proofs.is_rate.Reads as fields-is-rate
 use Rattle.sections.proofs.goes_on.Reads as sections-goes-on
@@ -140,11 +140,11 @@ tables-no-trades-fixed κs a x y s u p q = one p q
 pub tables-no-tables-fixed : Fixes tables-no-tables.Post
 tables-no-tables-fixed κs a x y s u p q = one p q
 
-pub fields-ended-fixed : Fixes fields-ended.Post
-fields-ended-fixed κs a x y s u p q = one p q
+pub places-ended-fixed : Fixes places-ended.Post
+places-ended-fixed κs a x y s u p q = one p q
 
-pub fields-line-at-fixed : Fixes fields-line-at.Post
-fields-line-at-fixed κs a x y s u p q = one p q
+pub places-line-at-fixed : Fixes places-line-at.Post
+places-line-at-fixed κs a x y s u p q = one p q
 
 pub fields-number-at-fixed : Fixes fields-number-at.Post
 fields-number-at-fixed κs a x y s u p q = one p q
@@ -173,8 +173,8 @@ fields-code-at-fixed κs a x y s u p q = one p q
 pub fields-currency-at-fixed : Fixes fields-currency-at.Post
 fields-currency-at-fixed κs a x y s u p q = one p q
 
-pub fields-is-blank-fixed : Fixes fields-is-blank.Post
-fields-is-blank-fixed κs a x y s u p q = one p q
+pub places-is-blank-fixed : Fixes places-is-blank.Post
+places-is-blank-fixed κs a x y s u p q = one p q
 
 pub fields-is-read-fixed : Fixes fields-is-read.Post
 fields-is-read-fixed κs a x y s u p q = one p q

@@ -1,5 +1,4 @@
 pub mod Parts
 pub mod Readings
 pub mod Letters
-pub mod Places
 pub mod Checks

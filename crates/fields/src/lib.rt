@@ -1,9 +1,10 @@
-// Lines, fields, and what stands in a field: the bytes of a lent sheet, by their places.
-// A field is the bytes from a place up to another; a line is looked through once, for where its fields end. A field is then read
-// by those ends and by its number: as a number, and as the highest one where it is nothing that it may be.
+// What stands in a field: the bytes of a lent sheet from a place up to another.
+// A field is read by the ends of its line's fields and by its number: as a number, and as the highest one where it is nothing that
+// it may be.
 use days::Date;
 use days::Dated;
 use days::Day;
+use places::Place;
 use tables::Code;
 use tables::Money;
 ghost use mathlib.Core.Path.{_≡_};
@@ -14,75 +15,17 @@ ghost use lib.Dec.{eqb};
 ghost use lib.ListN.{length, getD};
 ghost use lib.Seq.{slice};
 ghost use Rattle.paper.specs.Lists.{between};
-ghost use Rattle.paper.specs.Text.{LF, numberIn, dateIn};
+ghost use Rattle.paper.specs.Text.{numberIn, dateIn};
 ghost use Rattle.paper.specs.Rows.{kindIn};
 ghost use Rattle.paper.specs.Days.{newYears, dayOf};
 ghost use Rattle.tables.specs.Numbers.{kindNumber, currencyNumber};
 ghost use Rattle.fields.specs.Values.{orHighest, signedOr, isRead, isSignedRead, digitsIn, rangedIn, rateIn, durationIn, letterIn, countsTable, checkedOr, codeOr, currencyOr};
-ghost use Rattle.fields.specs.Places.{endedLength, lineAt, fieldText, Stands};
-
-pub type Place = usize; // in the sheet, in bytes from its start
+ghost use Rattle.places.specs.Places.{fieldText, Stands};
 
 type Counts = u16; // what digits count, in two numbers, the second times 256: the last of them once, and doubled
 
-// A line: its number of fields, where the first ten end, and where the next line starts.
-pub struct Line {
-    pub count: usize, // fields
-    pub ends: [Place; 10],
-    pub next: Place,
-}
-
-// The place behind the last LF: each line that starts before it has its LF.
-pub fn ended(s: &[u8]) -> Place
-    ensures { λ r. ⌜ r ≡ endedLength (now (s .entry)) ⌝ }
-{
-    let mut n: Place = s.len();
-    while 0 < n {
-        if s[n - 1] == 10 {
-            return n;
-        }
-        n -= 1;
-    }
-    0
-}
-
-// The line that starts at a place. An LF stands right before `end`, so that the line has one.
-// Its bytes are looked at by eights: unrolled, that is too long to be put into each caller, where registers run short.
-pub fn line_at(s: &[u8], at: Place, end: Place) -> Line
-    requires { ⌜ (at < end) × (end ≤ length (now s)) × (getD (now s) (end - 1) 0 ≡ LF) ⌝ }
-    ensures { λ r. ⌜ r ≡ lineAt (now (s .entry)) at ⌝ }
-{
-    let mut ends: [Place; 10] = [0; 10];
-    let mut count: usize = 0; // fields that ended
-    let mut i: Place = at;
-    loop {
-        let mut k: usize = 0; // bytes of the eight
-        while k < 8 {
-            let b = s[i]; // a byte
-            if b == 10 {
-                if count < 10 {
-                    ends[count] = i;
-                }
-                return Line {
-                    count: count + 1,
-                    ends: ends,
-                    next: i + 1,
-                };
-            }
-            if b == 59 {
-                if count < 10 { // there are more
-                    ends[count] = i;
-                }
-                count += 1;
-            }
-            i += 1;
-            k += 1;
-        }
-    }
-}
-
 // Digits as the number that they mean; at most 19, so that it fits and is not the highest, which stands for other bytes.
-// They are read by sixes, for the reason of `line_at`.
+// They are read by sixes, for the reason of `places::line_at`.
 fn digits_in(s: &[u8], at: Place, end: Place) -> u64
     requires { ⌜ (at ≤ end) × (end ≤ length (now s)) × (end ≤ at + 19) ⌝ }
     ensures { λ r. ⌜ r ≡ orHighest (digitsIn (slice at end (now (s .entry)))) ⌝ }
@@ -509,17 +452,6 @@ pub fn currency_at(
     ensures { λ r. ⌜ r ≡ currencyOr (fieldText (now (s .entry)) (now (ends .entry)) k) ⌝ }
 {
     currency_in(s, ends[k] + 1, ends[k + 1])
-}
-
-// Whether a field is blank.
-pub fn is_blank(
-    ends: &[Place; 10],
-    k: usize, // fields behind the letter
-) -> bool
-    requires { ⌜ (k < 9) × (getD (now ends) k 0 < 18446744073709551615) ⌝ }
-    ensures { λ r. ⌜ r ≡ eqb (getD (now (ends .entry)) k 0 + 1) (getD (now (ends .entry)) (k + 1) 0) ⌝ }
-{
-    ends[k] + 1 == ends[k + 1]
 }
 
 // Whether a field read as anything that it may be.

@@ -1,7 +1,7 @@
 -- An O row by the readings of its fields.
 use Prim.Native.Nat.{ℕ}
 use native.Mathlib.Omega.{arith}
-use mathlib.Core.Bool.{Bool, true, cond, _&&_}
+use mathlib.Core.Bool.{Bool, true, _&&_}
 use mathlib.Core.List.{[]}
 use mathlib.Core.Option.{Option}
 use mathlib.Core.Path.{_≡_, sym, _∙_}
@@ -12,9 +12,9 @@ use Rattle.paper.specs.Rows as paper
 use Rattle.paper.specs.Rows.{field, readPriority}
 use Rattle.paper.specs.Refusals.{priorityKind}
 use Rattle.tables.specs.Held.{heldPriority}
-use Rattle.fields.specs.Places.{Place, lineAt, fieldText}
+use Rattle.places.specs.Places.{Place, lineAt, fieldText}
 use Rattle.fields.specs.Values.{orHighest, isRead, rangedIn}
-use Rattle.fields.specs.declared.Line.{Line}
+use Rattle.places.specs.declared.Line.{Line}
 use Rattle.sections.specs.Sections.{fieldsAt}
 use Rattle.sections.proofs.Reading.{Lined, split, from-zero, closed, so-many, one-rule, ranged}
 use Rattle.priorities.specs.Read.{takenOf, priorityRead}

@@ -3,7 +3,7 @@ use mathlib.Core.Bool.{Bool, cond}
 use mathlib.Core.List.{[]}
 use Rattle.paper.specs.Units.{Text, Number}
 use Rattle.paper.specs.Refusals.{priorityKind}
-use Rattle.fields.specs.Places.{Place, lineAt}
+use Rattle.places.specs.Places.{Place, lineAt}
 use Rattle.tables.specs.Held.{heldPriority}
 use Rattle.tables.specs.declared.PriorityRow.{PriorityRow}
 use Rattle.sections.specs.Sections.{fieldsAt, shaped, told}

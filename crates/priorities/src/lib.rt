@@ -1,6 +1,6 @@
 // O rows: read from their lines, judged by the C rows, and put into their table; the section is their table, or the refusal of
 // one.
-use fields::Place;
+use places::Place;
 use sections::Number;
 use sections::Section;
 use tables::Classes;
@@ -14,7 +14,7 @@ ghost use lib.ListN.{drop};
 ghost use Rattle.paper.specs.Refusals.{refused, priorityKind};
 ghost use Rattle.paper.specs.Text.{lines};
 ghost use Rattle.paper.specs.Sheet.{section};
-ghost use Rattle.fields.specs.Places.{endedLength};
+ghost use Rattle.places.specs.Places.{endedLength};
 ghost use Rattle.tables.specs.Back.{paperClasses, ranged};
 ghost use Rattle.priorities.specs.Read.{takenOf, priorityRead, priorityNumber};
 ghost use Rattle.priorities.specs.Known.{knownOf, brokenOf};
@@ -48,7 +48,7 @@ fn priority_row(s: &[u8], at: Place, end: Place) -> PriorityRead
     requires { ⌜ (at < end) × (end ≡ endedLength (now s)) ⌝ }
     ensures { λ r. ⌜ r ≡ priorityRead (now (s .entry)) at ⌝ }
 {
-    let line = fields::line_at(s, at, end);
+    let line = places::line_at(s, at, end);
     if line.count != 4 {
         return PriorityRead::Refused(5);
     }

@@ -1,11 +1,10 @@
 -- Whether a line has a letter, by two bytes of the sheet: the letter stands where the line starts, and a mark behind it.
-use Prim.Native.Nat.{ℕ, zero, suc, _+_, _-_, _≤_, _<_}
+use Prim.Native.Nat.{ℕ, _+_, _-_, _<_}
 use native.Mathlib.Nat.{add-zero}
 use native.Mathlib.Omega.{arith}
 use mathlib.Core.Bool.{Bool, true, false, not, _&&_, _||_, and-false}
-use mathlib.Core.List.{List, [], _∷_, _++_, append-assoc}
-use mathlib.Core.Logic.{⊎-elim}
-use mathlib.Core.Path.{_≡_, refl, sym, ap, ap₂, _∙_}
+use mathlib.Core.List.{[], _∷_, _++_, append-assoc}
+use mathlib.Core.Path.{_≡_, refl, sym, ap, _∙_}
 use borrow.Author.Tests.{eq-eqb, ne-eqb, eqb-true, eqb-false, not-true, lt-ltb, ltb-true, ltb-false}
 use lib.Dec.{eqb, ltb}
 use lib.ListN.{length, getD, drop}
@@ -16,8 +15,8 @@ use Rattle.paper.specs.Text.{LF, semicolon, same, lineOf}
 use Rattle.paper.specs.Sheet.{begins}
 use Rattle.paper.proofs.Lists.{both, never, every-cons}
 use Rattle.paper.proofs.Lines.{plain, filled}
-use Rattle.fields.specs.Places.{Place, endedLength, lineAt}
-use Rattle.fields.proofs.Places.{LineThere, line-there, ended-lf, ended-most}
+use Rattle.places.specs.Places.{Place, endedLength, lineAt}
+use Rattle.places.proofs.Places.{line-there, ended-lf, ended-most}
 use Rattle.sections.specs.Sections.{fieldsAt}
 use Rattle.sections.specs.Sections.{goesOn}
 

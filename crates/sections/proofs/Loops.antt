@@ -17,10 +17,10 @@ use Rattle.paper.specs.Text.{lines}
 use Rattle.paper.specs.Refusals.{Outcome, refused, accepted, Rule, judged, RowKind, rulesOf}
 use Rattle.paper.specs.Sheet.{Rest, begins, row, rowsFrom, section}
 use Rattle.paper.specs.Tables.{hold}
-use Rattle.paper.proofs.Lists.{both, never, every-cons, tests}
+use Rattle.paper.proofs.Lists.{both, never, every-cons}
 use Rattle.paper.proofs.Outcomes.{not-accepted, refused-one, judged-holds, judged-accepted, numbered}
-use Rattle.fields.specs.Places.{Place, endedLength, lineAt}
-use Rattle.fields.proofs.Places.{line-there, no-line, unended-line, ended-most}
+use Rattle.places.specs.Places.{Place, endedLength, lineAt}
+use Rattle.places.proofs.Places.{line-there, no-line, unended-line, ended-most}
 use Rattle.sections.specs.Sections.{fieldsAt, goesOn, nextAfter, shaped, told, broken, sectionOf, rowsIn}
 use Rattle.sections.specs.declared.Section.{Section}
 

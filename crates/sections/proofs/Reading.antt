@@ -3,23 +3,25 @@
 use Prim.Native.Nat.{ℕ, suc, _+_, _-_, _≤_, _<_}
 use native.Mathlib.Numerals.{add-one}
 use native.Mathlib.Omega.{arith}
-use mathlib.Core.Bool.{Bool, true, false, cond, not, _&&_}
+use mathlib.Core.Bool.{Bool, true, false, cond, _&&_, and-false}
 use mathlib.Core.List.{List, [], _∷_}
 use mathlib.Core.Option.{Option, none, some, Option·map, Option·getD}
 use mathlib.Core.Path.{_≡_, refl, sym, ap, _∙_}
-use borrow.Author.Tests.{eq-eqb, ne-eqb, le-leb}
-use lib.Dec.{eqb, leb, ltb}
+use borrow.Author.Tests.{eq-eqb, ne-eqb, le-leb, lt-leb}
+use lib.Dec.{leb, ltb}
 use lib.ListN.{length, getD}
-use Rattle.paper.specs.Units.{Text, Fields, Number, Duration}
+use Rattle.paper.specs.Units.{Text, Fields, Number, Duration, Date, Day}
+use Rattle.paper.specs.Days.{dayOf, day}
 use Rattle.paper.specs.Lists.{between, given, when, _>>=_}
 use Rattle.paper.specs.Text.{LF, numberIn, orBlank}
 use Rattle.paper.specs.Rows.{Kind, government, corporate, inflation, floating, field}
-use Rattle.paper.specs.Refusals.{Outcome, refused, accepted, Rule, judged, RowKind, isDuration}
+use Rattle.paper.specs.Refusals.{refused, Rule, judged, RowKind, isDuration, follows}
+use Rattle.paper.proofs.Days.{day-below}
 use Rattle.tables.specs.Numbers.{kindNumber, highest}
-use Rattle.fields.specs.Places.{Place, endedLength, lineAt, fieldText, Stands}
+use Rattle.places.specs.Places.{Place, endedLength, lineAt, fieldText, Stands}
 use Rattle.fields.specs.Values.{orHighest, isRead, rangedIn, durationIn}
-use Rattle.fields.specs.declared.Line.{Line}
-use Rattle.fields.proofs.Places.{LineThere, line-there, ended-lf, ended-most}
+use Rattle.places.specs.declared.Line.{Line}
+use Rattle.places.proofs.Places.{LineThere, line-there, ended-lf, ended-most}
 use Rattle.fields.proofs.Readings.{ranged-read, duration-read}
 use Rattle.sections.specs.Sections.{fieldsAt, shaped, told}
 
@@ -76,6 +78,22 @@ tested good b x y e = e ∙ split good b x y
 -- From 0 on there is only a highest
 pub from-zero : (most n : ℕ) → between 0 most n ≡ leb n most
 from-zero most n = rw (le-leb 0 n (omega arith))
+
+-- ---- two dates
+
+-- The second so many days after the first at most: what stands for no day is too far from every day
+pub following : {A : Type 0} (most : ℕ) → most < 1_000_000 → (first last : Date) (then : Day → Day → A) (other : A)
+    → cond (follows most first last) (then (day first) (day last)) other
+    ≡ cond (between 1 most (orHighest (dayOf last) - orHighest (dayOf first))) (then (orHighest (dayOf first)) (orHighest (dayOf last))) other
+following most few first last then other = go (dayOf first) (dayOf last) (day-below first) (day-below last)
+  where
+    go : (p q : Option Day) → ((d : Day) → p ≡ some d → d < 146_097) → ((d : Day) → q ≡ some d → d < 146_097)
+        → cond (given p && given q && between 1 most (Option·getD q 0 - Option·getD p 0)) (then (Option·getD p 0) (Option·getD q 0)) other
+        ≡ cond (between 1 most (orHighest q - orHighest p)) (then (orHighest p) (orHighest q)) other
+    go none none low high = refl
+    go none (some b) low high = let zero : b - highest ≡ 0 = omega (arith, high b refl) in rw zero
+    go (some a) none low high = let far : most < highest - a = omega (arith, low a refl) in rw (lt-leb _ _ far, and-false)
+    go (some a) (some b) low high = refl
 
 -- ---- what is said of a row
 

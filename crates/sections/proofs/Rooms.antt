@@ -1,7 +1,6 @@
 -- A section's loop, turn by turn: the table has the rows above, a line that is refused refuses the section, and a row that breaks no
 -- rule is put into the table. Said once, over what a section's room has.
 use Prim.Native.Nat.{ℕ, _+_, _≤_, _<_}
-use native.Mathlib.Omega.{arith}
 use mathlib.Core.Bool.{true, false}
 use mathlib.Core.List.{List, [], _∷_, reverse}
 use mathlib.Core.Path.{_≡_, refl, sym, ap, _∙_}
@@ -9,7 +8,7 @@ use lib.ListN.{length, set, length-reverse}
 use Rattle.paper.specs.Units.{Byte, Text}
 use Rattle.paper.specs.Refusals.{RowKind}
 use Rattle.paper.proofs.Outcomes.{numbered}
-use Rattle.fields.specs.Places.{Place, endedLength, lineAt}
+use Rattle.places.specs.Places.{Place, endedLength, lineAt}
 use Rattle.tables.specs.Padded.{tableOf}
 use Rattle.tables.proofs.Padded.{table-more}
 use Rattle.sections.specs.Sections.{fieldsAt, goesOn, shaped, told, broken}

@@ -19,8 +19,8 @@ use Rattle.paper.proofs.Lists.{never}
 use Rattle.paper.proofs.Lines.{filled, lines-fewer}
 use Rattle.paper.proofs.Outcomes.{Sound, numbered}
 use Rattle.paper.proofs.Sections.{Inverse, section-written, rows-sound}
-use Rattle.fields.specs.Places.{Place, endedLength, lineAt}
-use Rattle.fields.proofs.Places.{line-there, no-line, unended-line, ended-most}
+use Rattle.places.specs.Places.{Place, endedLength, lineAt}
+use Rattle.places.proofs.Places.{line-there, no-line, unended-line, ended-most}
 use Rattle.sections.specs.Sections.{nextAfter, sectionOf, rowsIn}
 use Rattle.sections.specs.declared.Section.{Section}
 use Rattle.sections.proofs.Loops.{whole}

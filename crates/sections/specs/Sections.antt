@@ -10,7 +10,7 @@ use Rattle.paper.specs.Units.{Byte, Text, Fields, Number}
 use Rattle.paper.specs.Text.{lines}
 use Rattle.paper.specs.Refusals.{Outcome, refused, accepted, Rule, judged, RowKind}
 use Rattle.paper.specs.Sheet.{Rest, begins}
-use Rattle.fields.specs.Places.{Place, lineAt}
+use Rattle.places.specs.Places.{Place, lineAt}
 use Rattle.sections.specs.declared.Section.{Section}
 
 -- The fields of the line that starts at a place

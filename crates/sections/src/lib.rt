@@ -1,8 +1,8 @@
 // Sections of a sheet: whether one goes on at a line, and how it went. How a section's loop goes, and how a row's fields are read,
 // is said once, over the row kind, in proofs.
-use fields::Place;
+use places::Place;
 ghost use mathlib.Core.Path.{_≡_};
-ghost use Rattle.fields.specs.Places.{endedLength};
+ghost use Rattle.places.specs.Places.{endedLength};
 ghost use Rattle.sections.specs.Sections.{goesOn};
 
 pub type Number = u64; // of a refusal

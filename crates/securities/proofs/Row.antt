@@ -1,28 +1,27 @@
 -- An S row by the readings of its fields.
-use Prim.Native.Nat.{ℕ, zero, suc, _+_, _-_, _<_}
+use Prim.Native.Nat.{ℕ, zero, suc, _+_, _-_}
 use native.Mathlib.Omega.{arith}
-use mathlib.Core.Bool.{Bool, true, false, cond, not, _&&_, _||_, and-false}
+use mathlib.Core.Bool.{Bool, true, false, cond, not, _&&_, _||_}
 use mathlib.Core.List.{[]}
-use mathlib.Core.Option.{Option, none, some, Option·map, Option·getD}
+use mathlib.Core.Option.{Option, some, Option·map, Option·getD}
 use mathlib.Core.Path.{_≡_, refl, sym, ap, _∙_}
 use borrow.Author.Tests.{ne-eqb, le-leb, lt-leb}
 use lib.Dec.{eqb, leb, ltb}
 use lib.ListN.{getD}
 use Rattle.paper.specs.Units.{Text, Day, Duration}
 use Rattle.paper.specs.Days.{dayOf, day}
-use Rattle.paper.specs.Lists.{between, given}
+use Rattle.paper.specs.Lists.{between}
 use Rattle.paper.specs.Text.{dateIn, isCode, isCurrency}
 use Rattle.paper.specs.Rows as paper
 use Rattle.paper.specs.Rows.{field, kindIn, readSecurity}
 use Rattle.paper.specs.Refusals.{isDuration, follows, securityFields, securityKind}
-use Rattle.paper.proofs.Days.{day-below}
 use Rattle.tables.specs.Numbers.{kindNumber, codeNumber, currencyNumber, highest}
-use Rattle.fields.specs.Places.{Place, lineAt, fieldText}
+use Rattle.places.specs.Places.{Place, lineAt, fieldText}
 use Rattle.fields.specs.Values.{orHighest, isRead, rangedIn, durationIn, codeOr, currencyOr}
-use Rattle.fields.specs.declared.Line.{Line}
+use Rattle.places.specs.declared.Line.{Line}
 use Rattle.fields.proofs.Readings.{kind-read, code-read, currency-read}
 use Rattle.sections.specs.Sections.{fieldsAt}
-use Rattle.sections.proofs.Reading.{Lined, split, from-zero, closed, so-many, two-rules, lettered, ranged, lasting}
+use Rattle.sections.proofs.Reading.{Lined, split, from-zero, following, closed, so-many, two-rules, lettered, ranged, lasting}
 use Rattle.securities.specs.Read.{takenOf, heldRow, securityRead}
 use Rattle.securities.specs.declared.SecurityRow.{SecurityRow}
 use Rattle.securities.specs.declared.SecurityRead.{SecurityRead}
@@ -51,20 +50,6 @@ numbered : {A : Type 0} (a b d p c t : Bool) (m n : ℕ) (row : ℕ → ℕ → 
 numbered true true d p c t m n row z = refl
 numbered true false d p c t m n row z = refl
 numbered false b d p c t m n row z = refl
-
--- Two days that may be missing, the second at most so many after the first: where one is, the highest number fails too
-apart : {A : Type 0} (o p : Option Day) → ((d : Day) → o ≡ some d → d < 146_097) → ((d : Day) → p ≡ some d → d < 146_097) → (row : Day → Day → A) (z : A)
-    → cond (given o && given p && between 1 400 (Option·getD p 0 - Option·getD o 0)) (row (Option·getD o 0) (Option·getD p 0)) z
-    ≡ cond (between 1 400 (orHighest p - orHighest o)) (row (orHighest o) (orHighest p)) z
-apart none none low high row z = refl
-apart none (some d) low high row z =
-    let second = high d refl in
-    let less : d - highest ≡ 0 = omega arith in
-    rw less
-apart (some d) none low high row z =
-    let first = low d refl in
-    sym (rw (lt-leb (highest - d) 400 (omega arith), and-false))
-apart (some d) (some e) low high row z = refl
 
 module _ (sheet : Text) (at : Place) where
   abbrev text : ℕ → Text
@@ -156,7 +141,7 @@ module _ (sheet : Text) (at : Place) where
       (λ number currency. cond (follows 400 first second) (row number currency (day first) (day second)) (reads.Refused 7)) (reads.Refused 6)
       ∙ rw (payments-parts payments, from-zero 2_000_000 coupon)
       (parted form (between 1 4 payments) (not (eqb payments 3)) (reads.Refused 6)
-      (apart (dayOf first) (dayOf second) (day-below first) (day-below second) (row (codeOr (text 1)) (currencyOr (text 2))) (reads.Refused 7)))
+      (following 400 (omega arith) first second (row (codeOr (text 1)) (currencyOr (text 2))) (reads.Refused 7)))
 
   pub security-fields : end (readSecurity (fieldsAt sheet at))
       ≡ (let kind = orHighest (Option·map kindNumber (kindIn (text 3))) in

@@ -21,7 +21,7 @@ use Rattle.paper.proofs.Lists.{tests, both, bounds, Each, nil, cons, each-map}
 use Rattle.paper.proofs.Days.{day-below}
 use Rattle.paper.proofs.Currencies.{currencies-reverse}
 use Rattle.paper.proofs.Rules.{SecurityFacts, security-facts}
-use Rattle.fields.specs.Places.{Place, endedLength}
+use Rattle.places.specs.Places.{Place, endedLength}
 use Rattle.tables.specs.Numbers.{codeNumber, currencyNumber, highest}
 use Rattle.tables.specs.Padded.{tableOf}
 use Rattle.tables.specs.Held.{noSecurity, heldSecurity, currencyTable, securityTable}

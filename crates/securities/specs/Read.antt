@@ -8,7 +8,7 @@ use Rattle.paper.specs.Units.{Text, Number}
 use Rattle.paper.specs.Days.{day}
 use Rattle.paper.specs.Rows as paper
 use Rattle.paper.specs.Refusals.{securityKind}
-use Rattle.fields.specs.Places.{Place, lineAt}
+use Rattle.places.specs.Places.{Place, lineAt}
 use Rattle.tables.specs.Numbers.{kindNumber, codeNumber, currencyNumber}
 use Rattle.sections.specs.Sections.{fieldsAt, shaped, told}
 use Rattle.securities.specs.declared.SecurityRow.{SecurityRow}

@@ -7,7 +7,7 @@ use Rattle.paper.specs.Units.{Text, Number, Class}
 use Rattle.paper.specs.Rows as paper
 use Rattle.paper.specs.Refusals.{Outcome}
 use Rattle.paper.specs.Sheet.{Rest}
-use Rattle.fields.specs.Places.{Place}
+use Rattle.places.specs.Places.{Place}
 use Rattle.tables.specs.Held.{securityTable}
 use Rattle.tables.specs.declared.Security.{Security}
 use Rattle.sections.specs.Sections.{broken, sectionOf, rowsIn}

@@ -1,7 +1,7 @@
 // S rows: read from their lines, judged by those above and by the C rows, and put into their table, each with its class and the
 // place of its currency among the rising ones; the section is their table, or the refusal of one.
 use days::Day;
-use fields::Place;
+use places::Place;
 use sections::Number;
 use sections::Section;
 use tables::Classes;
@@ -19,7 +19,7 @@ ghost use Rattle.paper.specs.Days.{newYears};
 ghost use Rattle.paper.specs.Refusals.{refused, securityKind};
 ghost use Rattle.paper.specs.Text.{lines};
 ghost use Rattle.paper.specs.Sheet.{section};
-ghost use Rattle.fields.specs.Places.{endedLength};
+ghost use Rattle.places.specs.Places.{endedLength};
 ghost use Rattle.tables.specs.Numbers.{kindNumber};
 ghost use Rattle.tables.specs.Back.{kindOf, paperClasses, ranged};
 ghost use Rattle.securities.specs.Read.{takenOf, securityRead, securityNumber};
@@ -87,7 +87,7 @@ fn security_row(s: &[u8], years: &[Day; 400], at: Place, end: Place) -> Security
     requires { ⌜ (at < end) × (end ≡ endedLength (now s)) × (now years ≡ newYears) ⌝ }
     ensures { λ r. ⌜ r ≡ securityRead (now (s .entry)) at ⌝ }
 {
-    let line = fields::line_at(s, at, end);
+    let line = places::line_at(s, at, end);
     if line.count != 10 {
         return SecurityRead::Refused(5);
     }

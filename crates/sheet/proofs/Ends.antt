@@ -11,8 +11,8 @@ use Rattle.paper.specs.Units.{Text, Fields, Line}
 use Rattle.paper.specs.Text.{lines}
 use Rattle.paper.specs.Refusals.{refused, accepted}
 use Rattle.paper.specs.Sheet.{ended}
-use Rattle.fields.specs.Places.{Place, endedLength, lineAt}
-use Rattle.fields.proofs.Places.{line-there, no-line, unended-line, ended-most}
+use Rattle.places.specs.Places.{Place, endedLength, lineAt}
+use Rattle.places.proofs.Places.{line-there, no-line, unended-line, ended-most}
 
 -- The end of a sheet: no line is left where the place is the sheet's end, and one is left elsewhere
 pub ended-there : {A : Type 0} (sheet : Text) (a : A) (at : Place) (line : Line) → at ≤ endedLength sheet → at ≡ length sheet

@@ -1,19 +1,19 @@
 -- A D row by the readings of its field.
 use Prim.Native.Nat.{ℕ}
 use native.Mathlib.Omega.{arith}
-use mathlib.Core.Bool.{Bool, true, false, cond, _&&_}
+use mathlib.Core.Bool.{Bool, cond, _&&_}
 use mathlib.Core.Option.{Option, none, some, Option·getD}
-use mathlib.Core.Path.{_≡_, refl, sym, ap, _∙_}
+use mathlib.Core.Path.{_≡_, refl, sym, _∙_}
 use lib.Dec.{leb}
-use Rattle.paper.specs.Units.{Text, Fields, Date, Day}
+use Rattle.paper.specs.Units.{Text, Date, Day}
 use Rattle.paper.specs.Lists.{given}
 use Rattle.paper.specs.Days.{dayOf, day, isDay}
 use Rattle.paper.specs.Text.{dateIn}
-use Rattle.paper.specs.Rows.{field, readDate}
+use Rattle.paper.specs.Rows.{field}
 use Rattle.paper.specs.Refusals.{dateKind}
-use Rattle.fields.specs.Places.{Place, lineAt, fieldText}
+use Rattle.places.specs.Places.{Place, lineAt, fieldText}
 use Rattle.fields.specs.Values.{orHighest, isRead}
-use Rattle.fields.specs.declared.Line.{Line}
+use Rattle.places.specs.declared.Line.{Line}
 use Rattle.fields.proofs.Readings.{day-read}
 use Rattle.sections.specs.Sections.{fieldsAt}
 use Rattle.sections.proofs.Reading.{Lined, so-many, one-rule}

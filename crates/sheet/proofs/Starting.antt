@@ -6,7 +6,7 @@ use mathlib.Core.Bool.{Bool, true, false, _&&_}
 use mathlib.Core.List.{List, [], _∷_, tail}
 use mathlib.Core.Logic.{⊎-elim}
 use mathlib.Core.Option.{Option, none, some, Option·getD}
-use mathlib.Core.Path.{_≡_, refl, sym, ap, ap₂, _∙_, subst}
+use mathlib.Core.Path.{_≡_, refl, sym, ap, _∙_, subst}
 use borrow.Author.Tests.{ltb-true, ltb-false}
 use lib.Dec.{T, eqb, ltb}
 use lib.ListN.{length, getD, take, drop}
@@ -16,13 +16,13 @@ use Rattle.paper.specs.Text.{ascii, lines, same}
 use Rattle.paper.specs.Lists.{given}
 use Rattle.paper.specs.Rows.{readDate, Tables}
 use Rattle.paper.specs.Refusals.{Outcome, refused, accepted, _>>=_, judged, dateKind}
-use Rattle.paper.specs.Sheet.{Rest, header, begins, row, dateRow, readTables, readSheet}
+use Rattle.paper.specs.Sheet.{Rest, header, begins, dateRow, readTables, readSheet}
 use Rattle.paper.specs.Tables.{hold}
 use Rattle.paper.proofs.Lists.{tests, both, never}
 use Rattle.paper.proofs.Days.{day-below}
 use Rattle.paper.proofs.Views.{header-written}
-use Rattle.fields.specs.Places.{Place, endedLength, lineAt}
-use Rattle.fields.proofs.Places.{ended-append, line-there, no-line, unended-line, ended-most}
+use Rattle.places.specs.Places.{Place, endedLength, lineAt}
+use Rattle.places.proofs.Places.{ended-append, line-there, no-line, unended-line, ended-most}
 use Rattle.sections.specs.Sections.{fieldsAt, goesOn, shaped}
 use Rattle.sections.proofs.Loops.{row-refused, row-judged, own-holds, Words, told-row, told-refused}
 use Rattle.sheet.specs.Whole.{headerNumber, dateRead}

@@ -1,11 +1,10 @@
 -- Reading the sections one after the other, as the code has them: where it ends with a refusal, and where it goes on.
-use Prim.Native.Nat.{ℕ, _+_, _≤_, _<_}
+use Prim.Native.Nat.{ℕ, _+_, _≤_}
 use native.Mathlib.Omega.{arith}
 use mathlib.Core.Bool.{true}
 use mathlib.Core.List.{List, []}
 use mathlib.Core.Option.{Option}
 use mathlib.Core.Path.{_≡_, refl, sym, ap, ap₂, _∙_}
-use lib.Dec.{T}
 use lib.ListN.{length, take, drop}
 use Rattle.paper.specs.Units.{Text, Date, Day, Code}
 use Rattle.paper.specs.Days.{day}
@@ -14,10 +13,9 @@ use Rattle.paper.specs.Rows as paper
 use Rattle.paper.specs.Rows.{ClassRow}
 use Rattle.paper.specs.Refusals.{Outcome, refused, accepted, Period, periodOf, classKind, priorityKind, securityKind, tradeKind}
 use Rattle.paper.specs.Sheet.{readTables}
-use Rattle.paper.specs.Tables.{holdDown}
 use Rattle.paper.proofs.Rules.{classes-at-most, priorities-at-most, securities-at-most, trades-at-most}
-use Rattle.fields.specs.Places.{Place, endedLength}
-use Rattle.tables.specs.Held.{classTable, priorityTable, securityTable, codesOf, tradeTable}
+use Rattle.places.specs.Places.{Place, endedLength}
+use Rattle.tables.specs.Held.{classTable, securityTable, codesOf}
 use Rattle.tables.specs.Back.{paperClasses, ranged}
 use Rattle.tables.specs.declared.Classes.{Classes}
 use Rattle.tables.specs.declared.Priorities.{Priorities}

@@ -6,7 +6,7 @@ use Rattle.paper.specs.Days.{day}
 use Rattle.paper.specs.Text.{ascii, same}
 use Rattle.paper.specs.Rows.{Tables}
 use Rattle.paper.specs.Refusals.{Outcome, refused, accepted, dateKind}
-use Rattle.fields.specs.Places.{Place, lineAt}
+use Rattle.places.specs.Places.{Place, lineAt}
 use Rattle.tables.specs.Held.{heldTables, noTables}
 use Rattle.sections.specs.Sections.{fieldsAt, shaped, told}
 use Rattle.sheet.specs.declared.DateRead.{DateRead}

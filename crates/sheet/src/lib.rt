@@ -1,6 +1,6 @@
 // A sheet, read: the header, the D row, then the sections C, O, S and T, and no line behind them.
 use days::Day;
-use fields::Place;
+use places::Place;
 use sections::Number;
 use tables::Tables;
 ghost use mathlib.Core.Path.{_≡_};
@@ -11,7 +11,7 @@ ghost use Rattle.paper.specs.Units.{Date};
 ghost use Rattle.paper.specs.Refusals.{refused};
 ghost use Rattle.paper.specs.Text.{lines};
 ghost use Rattle.paper.specs.Sheet.{readTables, readSheet};
-ghost use Rattle.fields.specs.Places.{endedLength};
+ghost use Rattle.places.specs.Places.{endedLength};
 ghost use Rattle.sheet.specs.Whole.{headerNumber, takenOf, dateRead, dateNumber, heldSheet};
 
 pub type LineNumber = u64; // from 1
@@ -76,7 +76,7 @@ fn date_row(s: &[u8], years: &[Day; 400], at: Place, end: Place) -> DateRead
     requires { ⌜ (at < end) × (end ≡ endedLength (now s)) × (now years ≡ newYears) ⌝ }
     ensures { λ r. ⌜ r ≡ dateRead (now (s .entry)) at ⌝ }
 {
-    let line = fields::line_at(s, at, end);
+    let line = places::line_at(s, at, end);
     if line.count != 2 {
         return DateRead::Refused(5);
     }
@@ -166,7 +166,7 @@ pub fn read_sheet(s: &[u8]) -> Sheet
         return refused(header, 1);
     }
     let years = days::new_years();
-    let end = fields::ended(s);
+    let end = places::ended(s);
     if !sections::goes_on(s, 6, end, 68) {
         return refused(5, 2);
     }

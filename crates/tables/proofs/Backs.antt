@@ -5,7 +5,6 @@ use mathlib.Core.List.{List, [], _∷_, map}
 use mathlib.Core.Option.{Option, none, some}
 use mathlib.Core.Path.{_≡_, refl, ap, ap₂, _∙_}
 use lib.Dec.{T}
-use lib.ListN.{length}
 use Rattle.paper.specs.Lists.{between, every, Each, nil, cons}
 use Rattle.paper.specs.Rows as paper
 use Rattle.paper.specs.Rows.{government, corporate, inflation, floating}

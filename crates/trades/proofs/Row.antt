@@ -1,11 +1,10 @@
 -- A T row by the readings of its fields.
-use Prim.Native.Nat.{ℕ, _+_, _-_, _<_}
+use Prim.Native.Nat.{ℕ, _+_, _-_}
 use native.Mathlib.Omega.{arith}
 use mathlib.Core.Bool.{Bool, true, false, cond, _&&_, and-false}
 use mathlib.Core.List.{[], _∷_}
 use mathlib.Core.Option.{Option, none, some, Option·map, Option·getD}
 use mathlib.Core.Path.{_≡_, refl, sym, ap, _∙_}
-use borrow.Author.Tests.{lt-leb}
 use lib.Dec.{eqb}
 use lib.IntN.{ℤ, pos}
 use lib.ListN.{getD}
@@ -15,15 +14,14 @@ use Rattle.paper.specs.Lists.{between, given, when, _>>=_}
 use Rattle.paper.specs.Text.{same, signedIn, dateIn, isCode, orBlank}
 use Rattle.paper.specs.Rows as paper
 use Rattle.paper.specs.Rows.{Trade, repo, cash, Side, seller, purchaser, field, tradeIn, sideIn, readTrade}
-use Rattle.paper.specs.Refusals.{isRate, isTerm, follows, tradeDates, tradeKind}
-use Rattle.paper.proofs.Days.{day-below}
+use Rattle.paper.specs.Refusals.{isRate, isTerm, tradeDates, tradeKind}
 use Rattle.tables.specs.Numbers.{tradeNumber, sideNumber, codeNumber, highest}
-use Rattle.fields.specs.Places.{Place, lineAt, fieldText}
+use Rattle.places.specs.Places.{Place, lineAt, fieldText}
 use Rattle.fields.specs.Values.{orHighest, signedOr, isRead, isSignedRead, rangedIn, rateIn, letterIn, codeOr}
-use Rattle.fields.specs.declared.Line.{Line}
+use Rattle.places.specs.declared.Line.{Line}
 use Rattle.fields.proofs.Readings.{day-read, rate-read, code-read, trade-letter, side-letter}
 use Rattle.sections.specs.Sections.{fieldsAt}
-use Rattle.sections.proofs.Reading.{Lined, split, closed, so-many, two-rules, lettered, ranged}
+use Rattle.sections.proofs.Reading.{Lined, split, following, closed, so-many, two-rules, lettered, ranged}
 use Rattle.trades.specs.Read.{heldRow, takenOf, tradeRead}
 use Rattle.trades.specs.declared.TradeRow.{TradeRow}
 use Rattle.trades.specs.declared.TradeRead.{TradeRead}
@@ -48,20 +46,6 @@ module _ {A : Type 0} (other : A) where
       go none = refl
       go (some d) = refl
 
-  -- The days of two dates: what stands for no day is too far from every day
-  following : (first last : Date) (then : Day → Day → A)
-      → cond (follows 730 first last) (then (day first) (day last)) other
-      ≡ cond (between 1 730 (orHighest (dayOf last) - orHighest (dayOf first))) (then (orHighest (dayOf first)) (orHighest (dayOf last))) other
-  following first last then = go (dayOf first) (dayOf last) (day-below first) (day-below last)
-    where
-      go : (p q : Option Day) → ((d : Day) → p ≡ some d → d < 146_097) → ((d : Day) → q ≡ some d → d < 146_097)
-          → cond (given p && given q && between 1 730 (Option·getD q 0 - Option·getD p 0)) (then (Option·getD p 0) (Option·getD q 0)) other
-          ≡ cond (between 1 730 (orHighest q - orHighest p)) (then (orHighest p) (orHighest q)) other
-      go none none low high = refl
-      go none (some b) low high = let zero : b - highest ≡ 0 = omega (arith, high b refl) in rw zero
-      go (some a) none low high = let far : 730 < highest - a = omega (arith, low a refl) in rw (lt-leb _ _ far, and-false)
-      go (some a) (some b) low high = refl
-
 -- A date that may be blank
 abbrev lastOf : Text → Option Date
 lastOf [] = none
@@ -76,8 +60,8 @@ lasting : {A : Type 0} (other : A) (first : Date) (last : Text) (then : Day → 
     → cond (tradeDates repo first (lastOf last)) (then (day first) (day (Option·getD (lastOf last) 0))) other
     ≡ cond (between 1 730 (orHighest (dayOf (dateIn last)) - orHighest (dayOf first))) (then (orHighest (dayOf first)) (orHighest (dayOf (dateIn last)))) other
 unfolding dateIn
-lasting other first [] then = sym (rw and-false) ∙ following other first 0 then
-lasting other first (b ∷ t) then = following other first (dateIn (b ∷ t)) then
+lasting other first [] then = sym (rw and-false) ∙ following 730 (omega arith) first 0 then other
+lasting other first (b ∷ t) then = following 730 (omega arith) first (dateIn (b ∷ t)) then other
 
 -- Two letters each
 trade-read : (o : Option Trade) → isRead (orHighest (Option·map tradeNumber o)) ≡ given o

@@ -1,5 +1,5 @@
 -- The T section's room, and what the code makes of a row, by the table of the securities: what the paper makes of it.
-use Prim.Native.Nat.{ℕ, _+_, _≤_, _<_}
+use Prim.Native.Nat.{ℕ, _≤_, _<_}
 use native.Mathlib.Omega.{arith}
 use mathlib.Core.Bool.{Bool, true, false, cond, _&&_}
 use mathlib.Core.List.{List, [], _∷_}
@@ -19,7 +19,7 @@ use Rattle.paper.specs.Refusals.{RowKind, Period, inPeriod, tradeKind}
 use Rattle.paper.proofs.Days.{day-below}
 use Rattle.paper.proofs.Lists.{never, tests}
 use Rattle.paper.proofs.Rules.{TradeFacts, trade-facts}
-use Rattle.fields.specs.Places.{Place, endedLength}
+use Rattle.places.specs.Places.{Place, endedLength}
 use Rattle.tables.specs.Numbers.{tradeNumber, sideNumber, numberPlace}
 use Rattle.tables.specs.Held.{noSecurity, noTrade, heldTrade, tradeTable}
 use Rattle.tables.specs.declared.Securities.{Securities}

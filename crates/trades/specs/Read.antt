@@ -9,7 +9,7 @@ use Rattle.paper.specs.Days.{day}
 use Rattle.paper.specs.Rows as paper
 use Rattle.paper.specs.Valuation.{lastDay}
 use Rattle.paper.specs.Refusals.{tradeKind}
-use Rattle.fields.specs.Places.{Place, lineAt}
+use Rattle.places.specs.Places.{Place, lineAt}
 use Rattle.tables.specs.Numbers.{tradeNumber, sideNumber, codeNumber}
 use Rattle.sections.specs.Sections.{fieldsAt, shaped, told}
 use Rattle.trades.specs.declared.TradeRow.{TradeRow}

@@ -5,7 +5,7 @@ use Rattle.paper.specs.Units.{Text, Day}
 use Rattle.paper.specs.Rows.{TradeRow}
 use Rattle.paper.specs.Refusals.{Outcome}
 use Rattle.paper.specs.Sheet.{Rest}
-use Rattle.fields.specs.Places.{Place}
+use Rattle.places.specs.Places.{Place}
 use Rattle.tables.specs.Held.{tradeTable}
 use Rattle.sections.specs.Sections.{sectionOf, rowsIn}
 use Rattle.trades.specs.declared.TradeSection.{TradeSection}

@@ -1,7 +1,7 @@
 // T rows: read from their lines, judged by the S rows, and put into their table, each with the place of its security, whether it is
 // margined, and its accrual day; the section is their table, or the refusal of one.
 use days::Day;
-use fields::Place;
+use places::Place;
 use sections::Number;
 use sections::Section;
 use tables::Code;
@@ -19,7 +19,7 @@ ghost use Rattle.paper.specs.Days.{newYears, workingAfter};
 ghost use Rattle.paper.specs.Refusals.{refused, tradeKind};
 ghost use Rattle.paper.specs.Text.{lines};
 ghost use Rattle.paper.specs.Sheet.{section};
-ghost use Rattle.fields.specs.Places.{endedLength};
+ghost use Rattle.places.specs.Places.{endedLength};
 ghost use Rattle.tables.specs.Numbers.{numberPlace};
 ghost use Rattle.trades.specs.Read.{takenOf, tradeRead, readNumber};
 ghost use Rattle.trades.specs.Found.{Searchable, periodIn, marginedOn, periodHolds, brokenOf, Small, tradeOf};
@@ -95,7 +95,7 @@ fn trade_row(s: &[u8], years: &[Day; 400], at: Place, end: Place) -> TradeRead
     requires { ⌜ (at < end) × (end ≡ endedLength (now s)) × (now years ≡ newYears) ⌝ }
     ensures { λ r. ⌜ r ≡ tradeRead (now (s .entry)) at ⌝ }
 {
-    let line = fields::line_at(s, at, end);
+    let line = places::line_at(s, at, end);
     if line.count != 9 {
         return TradeRead::Refused(5);
     }
@@ -110,7 +110,7 @@ fn trade_row(s: &[u8], years: &[Day; 400], at: Place, end: Place) -> TradeRead
     let last = fields::day_at(s, years, &ends, 6);
     let rate = fields::rate_at(s, &ends, 7); // ten-thousandths of a percent
     let cash = trade == 1;
-    let blank = fields::is_blank(&ends, 6) & fields::is_blank(&ends, 7);
+    let blank = places::is_blank(&ends, 6) & places::is_blank(&ends, 7);
     // Blank for cash; a rate for a repo, whose last date is left to refusal 7.
     let termed = holds(cash, blank, fields::is_rate(rate));
     let six = fields::is_read(trade)

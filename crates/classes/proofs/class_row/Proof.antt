@@ -1,9 +1,9 @@
 -- `classes::class_row` meets its contract: its four fields are read, and then joined.
 use native.Mathlib.Omega.{arith}
-use mathlib.Core.Path.{_≡_, sym, _∙_}
+use mathlib.Core.Path.{sym, _∙_}
 use borrow.Author.Needs.{needs}
 use Rattle.paper.specs.Refusals.{classKind}
-use Rattle.fields.specs.Places.{lineAt}
+use Rattle.places.specs.Places.{lineAt}
 use Rattle.tables.specs.Held.{heldClass}
 use Rattle.sections.specs.Sections.{fieldsAt}
 use Rattle.sections.proofs.Reading.{Lined, line-asked, counted, lined, not-many}

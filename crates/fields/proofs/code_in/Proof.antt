@@ -12,7 +12,7 @@ use Rattle.paper.specs.Units.{Byte, Text}
 use Rattle.paper.specs.Lists.{every}
 use Rattle.paper.specs.Text.{isLetter}
 use Rattle.paper.proofs.Lists.{every-step}
-use Rattle.fields.specs.Places.{Place}
+use Rattle.places.specs.Places.{Place}
 use Rattle.fields.specs.Values.{countsTable, checkedOr}
 use Rattle.fields.proofs.Parts.{part-step, part-sized, part-unsized}
 use Rattle.fields.proofs.Checks.{code-unsized, code-unlettered, code-rest}

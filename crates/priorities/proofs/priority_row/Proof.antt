@@ -1,10 +1,10 @@
 -- `priorities::priority_row` meets its contract: its three fields are read, and then joined.
 use native.Mathlib.Omega.{arith}
-use mathlib.Core.Path.{_≡_, sym, _∙_}
+use mathlib.Core.Path.{sym, _∙_}
 use borrow.Author.Needs.{needs}
 use mathlib.Core.List.{[]}
 use Rattle.paper.specs.Refusals.{priorityKind}
-use Rattle.fields.specs.Places.{lineAt}
+use Rattle.places.specs.Places.{lineAt}
 use Rattle.tables.specs.Held.{heldPriority}
 use Rattle.sections.specs.Sections.{fieldsAt}
 use Rattle.sections.proofs.Reading.{Lined, line-asked, counted, lined, not-many}

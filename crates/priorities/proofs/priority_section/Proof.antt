@@ -9,7 +9,7 @@ use borrow.Author.Needs.{needs}
 use lib.ListN.{length}
 use Rattle.paper.specs.Rows.{ClassRow}
 use Rattle.paper.specs.Refusals.{refused, priorityKind}
-use Rattle.fields.specs.Places.{Place, endedLength}
+use Rattle.places.specs.Places.{Place, endedLength}
 use Rattle.tables.specs.Back.{paperClasses}
 use Rattle.tables.specs.declared.PriorityRow.{PriorityRow}
 use Rattle.sections.specs.Sections.{goesOn, broken}

@@ -7,7 +7,7 @@ use borrow.Author.Needs.{needs}
 use borrow.Author.Tests.{eq-eqb, ne-eqb, le-ltb}
 use lib.Dec.{eqb}
 use lib.ListN.{getD}
-use Rattle.fields.proofs.Places.{ended-most}
+use Rattle.places.proofs.Places.{ended-most}
 use Rattle.sections.specs.Sections.{goesOn}
 use Rattle.sections.proofs.Begins.{isMark, goes-by-bytes, behind}
 use Rattle.sections.proofs.goes_on.Statement.{statement}

@@ -4,7 +4,7 @@ use mathlib.Core.List.{[]}
 use mathlib.Core.Path.{sym, _∙_}
 use borrow.Author.Needs.{needs}
 use Rattle.paper.specs.Refusals.{securityKind}
-use Rattle.fields.specs.Places.{lineAt}
+use Rattle.places.specs.Places.{lineAt}
 use Rattle.sections.specs.Sections.{fieldsAt}
 use Rattle.sections.proofs.Reading.{Lined, line-asked, counted, lined, not-many}
 use Rattle.securities.specs.Read.{heldRow}

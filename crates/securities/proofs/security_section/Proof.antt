@@ -9,7 +9,7 @@ use borrow.Author.Needs.{needs}
 use borrow.Author.Tests.{not-true, not-false}
 use lib.ListN.{take}
 use Rattle.paper.specs.Refusals.{refused}
-use Rattle.fields.specs.Places.{Place, endedLength}
+use Rattle.places.specs.Places.{Place, endedLength}
 use Rattle.sections.specs.Sections.{goesOn}
 use Rattle.sections.proofs.Loops.{goes-before}
 use Rattle.securities.specs.Read.{securityNumber}

@@ -1,10 +1,10 @@
 -- `sheet::date_row` meets its contract: its field is read as a date and as a day.
 use native.Mathlib.Omega.{arith}
-use mathlib.Core.Path.{_≡_, sym, _∙_}
+use mathlib.Core.Path.{sym, _∙_}
 use borrow.Author.Needs.{needs}
 use Rattle.paper.specs.Days.{day}
 use Rattle.paper.specs.Refusals.{dateKind}
-use Rattle.fields.specs.Places.{lineAt}
+use Rattle.places.specs.Places.{lineAt}
 use Rattle.sections.specs.Sections.{fieldsAt}
 use Rattle.sections.proofs.Reading.{Lined, line-asked, counted, lined, not-many}
 use Rattle.sheet.specs.declared.DateRead.the-variants as reads

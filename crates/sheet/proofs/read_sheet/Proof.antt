@@ -6,7 +6,7 @@ use mathlib.Core.Path.{_≡_, sym, ap, _∙_}
 use borrow.Author.Needs.{needs}
 use borrow.Author.Tests.{not-true, not-false}
 use Rattle.paper.specs.Refusals.{refused}
-use Rattle.fields.specs.Places.{Place, endedLength}
+use Rattle.places.specs.Places.{Place, endedLength}
 use Rattle.sections.specs.Sections.{goesOn}
 use Rattle.sections.proofs.Loops.{goes-before}
 use Rattle.sheet.specs.Whole.{headerNumber, dateNumber, heldSheet}

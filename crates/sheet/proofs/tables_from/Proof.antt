@@ -1,11 +1,11 @@
 -- `sheet::tables_from` meets its contract: section after section, each is refused or gone on from.
-use Prim.Native.Nat.{ℕ, _≤_}
+use Prim.Native.Nat.{_≤_}
 use native.Mathlib.Omega.{arith}
-use mathlib.Core.Path.{_≡_, sym, ap, _∙_}
+use mathlib.Core.Path.{_∙_}
 use borrow.Author.Needs.{needs}
 use Rattle.paper.specs.Units.{Text}
 use Rattle.paper.proofs.Days.{working-within}
-use Rattle.fields.specs.Places.{Place, endedLength}
+use Rattle.places.specs.Places.{endedLength}
 use Rattle.sheet.proofs.Stations.{classes-exit, classes-few, classes-asked, priorities-exit, priorities-few, o-within, securities-exit, securities-few, securities-asked, trades-exit, trades-few, left-over, all-read}
 use Rattle.sheet.proofs.tables_from.Statement.{statement}
 use Rattle.sheet.proofs.tables_from.Tie as tie

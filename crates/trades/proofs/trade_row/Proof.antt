@@ -8,8 +8,8 @@ use mir.Syntax.{w64}
 use mir.ValLaws.{toZ-ofZ}
 use lib.ListN.{getD}
 use Rattle.paper.specs.Refusals.{tradeKind}
-use Rattle.fields.specs.Places.{lineAt, Stands}
-use Rattle.fields.proofs.Places.{blank-field}
+use Rattle.places.specs.Places.{lineAt, Stands}
+use Rattle.places.proofs.Places.{blank-field}
 use Rattle.sections.specs.Sections.{fieldsAt}
 use Rattle.sections.proofs.Reading.{Lined, line-asked, counted, lined, not-many}
 use Rattle.trades.specs.Read.{heldRow}

@@ -9,7 +9,7 @@ use borrow.Author.Needs.{needs}
 use lib.Dec.{eqb}
 use Rattle.paper.specs.Rows as paper
 use Rattle.paper.specs.Refusals.{refused}
-use Rattle.fields.specs.Places.{Place, endedLength}
+use Rattle.places.specs.Places.{Place, endedLength}
 use Rattle.tables.specs.declared.Trade.{Trade}
 use Rattle.tables.specs.declared.Trades.{Trades}
 use Rattle.sections.specs.Sections.{goesOn}

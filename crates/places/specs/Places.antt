@@ -7,7 +7,7 @@ use lib.ListN.{length, getD, take, drop, replicate}
 use lib.Seq.{slice}
 use Rattle.paper.specs.Units.{Text}
 use Rattle.paper.specs.Text.{LF, semicolon}
-use Rattle.fields.specs.declared.Line.{Line}
+use Rattle.places.specs.declared.Line.{Line}
 
 -- A place in the sheet
 abbrev pub Place : Type 0

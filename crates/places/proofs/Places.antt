@@ -15,7 +15,7 @@ use Rattle.paper.specs.Lists.{every}
 use Rattle.paper.specs.Text.{LF, semicolon, same, pieces, linesOf, lines, parted, lineOf}
 use Rattle.paper.proofs.Lists.{every-step, every-cons}
 use Rattle.paper.proofs.Lines.{plain, filled, line-first}
-use Rattle.fields.specs.Places.{Place, endedLength, endsFrom, lastPlace, lineAt, fieldText, Stands}
+use Rattle.places.specs.Places.{Place, endedLength, endsFrom, lastPlace, lineAt, fieldText, Stands}
 
 -- ---- the last LF
 

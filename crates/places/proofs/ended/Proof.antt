@@ -1,4 +1,4 @@
--- `fields::ended` meets its contract. The loop's invariant: the bytes that were passed, from the end, hold no LF.
+-- `places::ended` meets its contract. The loop's invariant: the bytes that were passed, from the end, hold no LF.
 -- The measure is the bytes left.
 use Prim.Native.Nat.{ℕ, suc, _-_, _≤_, _<_}
 use native.Mathlib.Omega.{arith}
@@ -8,10 +8,10 @@ use lib.ListN.{length, getD, take}
 use lib.Seq.{take-suc, take-length, length-take-le}
 use Rattle.paper.specs.Units.{Byte, Text}
 use Rattle.paper.specs.Text.{LF}
-use Rattle.fields.specs.Places.{endedLength}
-use Rattle.fields.proofs.Places.{ended-append, ended-other}
-use Rattle.fields.proofs.ended.Statement.{statement}
-use Rattle.fields.proofs.ended.Tie as tie
+use Rattle.places.specs.Places.{endedLength}
+use Rattle.places.proofs.Places.{ended-append, ended-other}
+use Rattle.places.proofs.ended.Statement.{statement}
+use Rattle.places.proofs.ended.Tie as tie
 
 -- So many bytes are left, and the last LF is among them if there is one
 record Left (s : Text) (n : ℕ) : Type 0 where

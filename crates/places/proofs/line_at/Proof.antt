@@ -1,4 +1,4 @@
--- `fields::line_at` meets its contract. The invariant of both loops: the ends that were found, and those of the rest of the line
+-- `places::line_at` meets its contract. The invariant of both loops: the ends that were found, and those of the rest of the line
 -- behind them, are the line's; `count` says how many were found, and `ends` has the first ten. The measure is the bytes left, up to
 -- `end` and of the eight.
 use Prim.Native.Nat.{ℕ, zero, suc, _+_, _-_, _≤_, _<_}
@@ -13,9 +13,9 @@ use lib.ListN.{length, getD, take, drop, set, replicate, length-append, length-t
 use lib.Seq.{drop-cons, set-out}
 use Rattle.paper.specs.Units.{Text}
 use Rattle.paper.specs.Text.{LF, semicolon}
-use Rattle.fields.specs.Places.{Place, endsFrom, lastPlace, lineAt}
-use Rattle.fields.proofs.line_at.Statement.{statement}
-use Rattle.fields.proofs.line_at.Tie as tie
+use Rattle.places.specs.Places.{Place, endsFrom, lastPlace, lineAt}
+use Rattle.places.proofs.line_at.Statement.{statement}
+use Rattle.places.proofs.line_at.Tie as tie
 
 -- The first ten of a list of places, with 0 where it has fewer
 abbrev ten : List Place → List Place
