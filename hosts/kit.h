@@ -3,8 +3,8 @@
  * What the caller answers for, since the kit cannot see it:
  * - sheet can be read for sheet_len bytes, and report written for report_len bytes; where a length is 0, any address will do;
  * - the two do not overlap, and nothing else writes to either while the call lasts;
- * - a call takes 240,000 bytes of stack, and through libkit.so 3,000 more the first time. A thread with less is ended by the
- *   operating system, so give one that calls the kit 512 KB or more.
+ * - a call takes 115,000 bytes of stack, and through libkit.so 3,000 more the first time. A thread with less is ended by the
+ *   operating system, so give one that calls the kit 256 KB or more.
  * The kit keeps nothing between calls: any number of threads may call it at once. It calls memcpy, memmove and memset alone.
  */
 #ifndef GRONNHYL_KIT_H
