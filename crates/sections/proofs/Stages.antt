@@ -173,3 +173,21 @@ module _ {R B : Type 0} (kind : RowKind R) (staged : Staged kind) (sheet : Text)
         go : Stage (whole kind sheet from) x → Open
         go (stopped low lines e) = absurd (omega arith)
         go (went zero n down within e) = record { count = n; down = down; within = within; goes = e }
+
+-- ---- one section after the other
+
+-- A reading that goes on with a section, from a place and a line
+pub record Standing {R B : Type 0} (kind : RowKind R) (next : List R × Rest → Outcome B) (sheet : Text) (from : Place) (at : Line) (reading : Outcome B) : Type 0 where
+  pub within : from ≤ endedLength sheet
+  pub goes : reading ≡ (section kind (at, lines (drop from sheet)) >>= next)
+
+module _ {R B : Type 0} {kind : RowKind R} {sheet : Text} {from : Place} {at : Line} {next : List R × Rest → Outcome B} {reading : Outcome B}
+    (s : Standing kind next sheet from at reading) (staged : Staged kind) (x : Section) (is : x ≡ sectionOf sheet from (whole kind sheet from)) where
+  pub stopped-there : (x .refusal ≡ 0 → ⊥) → refused (x .refusal) (at + x .count) ≡ reading
+  stopped-there = exits kind staged sheet from (s .within) at next reading (s .goes) x is
+
+  pub few-there : (most : ℕ) → ((rs : List R) → T (holdDown kind [] rs) → length rs ≤ most) → x .count ≤ most + length sheet
+  few-there = few kind staged sheet from (s .within) at next reading (s .goes) x is
+
+  pub opened : x .refusal ≡ 0 → Open kind staged sheet from (s .within) at next reading (s .goes) x is
+  opened = opens kind staged sheet from (s .within) at next reading (s .goes) x is

@@ -3,4 +3,3 @@ pub mod Marks
 pub mod Row
 pub mod Ends
 pub mod Chain
-pub mod Stations
