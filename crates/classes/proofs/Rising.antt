@@ -22,6 +22,7 @@ use Rattle.paper.proofs.Order.{same-true, same-refl}
 use Rattle.paper.proofs.Fields.{kind-back}
 use Rattle.paper.proofs.Rules.{class-facts}
 use Rattle.tables.specs.Numbers.{kindNumber}
+use Rattle.tables.proofs.Numbers.{kind-below}
 use Rattle.classes.specs.Seen.{borderNumber, noneSeen, rowFits, afterRow, seenOf}
 use Rattle.classes.specs.declared.Seen.{Seen}
 
@@ -45,13 +46,6 @@ pub admitted : (above : List ClassRow) (c : ClassRow) → T (hold (rulesOf class
 admitted above c h r =
     let may : every (λ a. mayPrecede a c) above ≡ true = search tests in
     cons (formed above c h) may r
-
--- A kind's number is below 4
-pub kind-below : (k : Kind) → kindNumber k < 4
-kind-below government = omega arith
-kind-below corporate = omega arith
-kind-below inflation = omega arith
-kind-below floating = omega arith
 
 -- A border is at most 1,000,000 ten-thousandths of a year
 pub border-most : (c : ClassRow) → Formed c → borderNumber c ≤ 1_000_000
@@ -168,8 +162,3 @@ fits-all (d ∷ above) c (cons g p r) f =
     every-step (λ a. mayPrecede a c) d above
     ∙ ap (λ (b : Bool). mayPrecede d c && b) (fits-all above c r f)
     ∙ step (seenOf above) d c (four above) g f (sym (fits-all above d r g) ∙ p)
-
--- A row that fits may be put in front
-pub fits-front : (above : List ClassRow) (c : ClassRow) → Rising above → Formed c → rowFits (seenOf above) c ≡ true
-    → Rising (c ∷ above)
-fits-front above c r f e = cons f (fits-all above c r f ∙ e) r

@@ -16,6 +16,7 @@ use Rattle.places.specs.Places.{Place, endedLength}
 use Rattle.tables.specs.Held.{noClass, heldClass, classTable}
 use Rattle.tables.specs.declared.ClassRow.{ClassRow}
 use Rattle.tables.specs.declared.Classes.{Classes}
+use Rattle.tables.proofs.Numbers.{kind-below}
 use Rattle.sections.specs.Sections.{goesOn, broken}
 use Rattle.sections.proofs.Loops.{Kept, none-kept, more-kept}
 use Rattle.sections.proofs.Rooms as rooms
@@ -25,7 +26,7 @@ use Rattle.classes.specs.declared.ClassRead.{ClassRead}
 use Rattle.classes.specs.declared.ClassRead.the-variants as reads
 use Rattle.classes.specs.declared.Seen.{Seen}
 use Rattle.classes.specs.declared.ClassSection.{ClassSection}
-use Rattle.classes.proofs.Rising.{Rising, nil, Formed, admitted, kind-below, border-most, fits-all}
+use Rattle.classes.proofs.Rising.{Rising, nil, Formed, admitted, border-most, fits-all}
 
 -- The room
 abbrev pub room : Room paper.ClassRow ClassRead ClassRow ClassRow ClassSection Classes

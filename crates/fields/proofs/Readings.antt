@@ -8,16 +8,16 @@ use mathlib.Core.Path.{_≡_, refl, sym, ap}
 use borrow.Author.Tests.{ne-eqb, leb-true}
 use lib.Dec.{lit<}
 use lib.IntN.{ℤ, pos, negsuc, natAbs}
-use Rattle.paper.specs.Units.{Byte, Text, Date, Rate}
+use Rattle.paper.specs.Units.{Text, Date, Rate}
 use Rattle.paper.specs.Lists.{between, given, when}
 use Rattle.paper.specs.Text.{same, numberIn, signedIn, isCode, isCurrency}
-use Rattle.paper.specs.Rows.{Kind, government, corporate, inflation, floating, kindIn, repo, cash, tradeIn, seller, purchaser, sideIn}
+use Rattle.paper.specs.Rows.{kindIn, repo, cash, tradeIn, seller, purchaser, sideIn}
 use Rattle.paper.specs.Refusals.{isRate}
 use Rattle.paper.specs.Days.{dayOf}
 use Rattle.paper.proofs.Lists.{bind-some, when-some, bounds}
 use Rattle.paper.proofs.Days.{day-below}
 use Rattle.tables.specs.Numbers.{kindNumber, tradeNumber, sideNumber, codeNumber, currencyNumber, highest}
-use Rattle.tables.proofs.Numbers.{code-number-low, currency-number-low}
+use Rattle.tables.proofs.Numbers.{kind-below, trade-most, side-most, code-number-low, currency-number-low}
 use Rattle.fields.specs.Values.{orHighest, signedOr, isRead, isSignedRead, rangedIn, rateIn, durationIn, letterIn, codeOr, currencyOr}
 
 -- Nothing is there only where its test fails
@@ -82,23 +82,20 @@ day-read date = read-given (dayOf date) (λ d e. omega (arith, day-below date d 
 
 -- ---- of letters
 
-pub kind-read : (t : Text) → isRead (orHighest (Option·map kindNumber (kindIn t))) ≡ given (kindIn t)
-kind-read t = go (kindIn t)
-  where
-    go : (o : Option Kind) → isRead (orHighest (Option·map kindNumber o)) ≡ given o
-    go none = refl
-    go (some government) = refl
-    go (some corporate) = refl
-    go (some inflation) = refl
-    go (some floating) = refl
+-- What has a number that is not so high
+letter-read : {X : Type 0} (number : X → ℕ) → ((x : X) → number x < highest) → (o : Option X)
+    → isRead (orHighest (Option·map number o)) ≡ given o
+letter-read number low none = refl
+letter-read number low (some x) = rw (ne-eqb (number x) highest (λ e. omega (arith, low x)))
 
-pub letter-read : (zeroth first : Byte) (t : Text) → isRead (orHighest (letterIn zeroth first t)) ≡ given (letterIn zeroth first t)
-letter-read zeroth first t = go (same (zeroth ∷ []) t) (same (first ∷ []) t)
-  where
-    go : (p q : Bool) → let o : Option ℕ = cond p (some 0) (cond q (some 1) none) in isRead (orHighest o) ≡ given o
-    go true q = refl
-    go false true = refl
-    go false false = refl
+pub kind-read : (t : Text) → isRead (orHighest (Option·map kindNumber (kindIn t))) ≡ given (kindIn t)
+kind-read t = letter-read kindNumber (λ k. omega (arith, kind-below k)) (kindIn t)
+
+pub trade-read : (t : Text) → isRead (orHighest (Option·map tradeNumber (tradeIn t))) ≡ given (tradeIn t)
+trade-read t = letter-read tradeNumber (λ trade. omega (arith, trade-most trade)) (tradeIn t)
+
+pub side-read : (t : Text) → isRead (orHighest (Option·map sideNumber (sideIn t))) ≡ given (sideIn t)
+side-read t = letter-read sideNumber (λ side. omega (arith, side-most side)) (sideIn t)
 
 -- Trades and sides are two letters each
 module _ {A : Type 0} (number : A → ℕ) (zeroth first : A) where

@@ -5,7 +5,7 @@ use native.Mathlib.Nat.{le-refl, le-of-lt, eq-or-lt-of-le, not-suc-le-zero, add-
 use native.Mathlib.Numerals.{add-one}
 use native.Mathlib.Omega.{arith}
 use mathlib.Core.Bool.{Bool, true, false, cond, _&&_}
-use mathlib.Core.Option.{some}
+use mathlib.Core.Option.{Option, none, some, Option·getD}
 use mathlib.Core.Path.{_≡_, refl, ap, _∙_}
 use mathlib.Core.Logic.{⊎-elim}
 use borrow.Author.Tests.{lt-ltb, ltb-true, ltb-false, leb-true}
@@ -14,7 +14,7 @@ use lib.ListN.{getD, take, List·getD-eq-default}
 use Rattle.paper.specs.Units.{Date, Year, Day, Days}
 use Rattle.paper.specs.Lists.{sum, between}
 use Rattle.paper.proofs.Lists.{both, when-some, every-at, sum-part}
-use Rattle.paper.specs.Days.{leap, yearDays, newYearsFrom, newYears, monthDays, isReal, dayIn, dayOf, weekday, isOpen, firstOpen, daysTested, workingAfter}
+use Rattle.paper.specs.Days.{leap, yearDays, newYearsFrom, newYears, monthDays, isReal, dayIn, dayOf, day, weekday, isOpen, firstOpen, daysTested, workingAfter}
 
 -- The search's steps: it ends at an open day, and passes one that is not
 pub first-open : (left : Days) (d : Day) → isOpen d ≡ true → firstOpen left d ≡ d
@@ -142,3 +142,11 @@ day-below date d e =
     let w = when-some (leb 1 month && leb 1 day && isReal y (month - 1) (day - 1)) (dayIn y (month - 1) (day - 1)) d e in
     let r = both (leb 1 month && leb 1 day) (isReal y (month - 1) (day - 1)) (w .0) in
     rw (w .1) at (day-in-below y (month - 1) (day - 1) (real y (month - 1) (day - 1) (r .1)))
+
+-- Also where no day counts as the first
+pub day-low : (date : Date) → day date < 146_097
+day-low date = go (dayOf date) refl
+  where
+    go : (o : Option Day) → dayOf date ≡ o → Option·getD o 0 < 146_097
+    go none e = omega arith
+    go (some d) e = day-below date d e

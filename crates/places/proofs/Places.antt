@@ -327,20 +327,7 @@ line-there s at h =
           rw (c .ends, kept (endsOf at fs) k size q, kept-start at (endsOf at fs) k size q) (field-in s (c .rest) at fs (c .whole) k p);
     }
 
--- A field behind the letter stands in the sheet, by the ends of its line, and is the paper's
-module _ {s : Text} {at : Place} (l : LineThere s at) (k : ℕ) (has : k + 1 < length (l .fields)) (few : k < 9) where
-  field-here : FieldAt s (getD (lineAt s at .ends) k 0 + 1) (getD (lineAt s at .ends) (k + 1) 0) (getD (l .fields) (k + 1) [])
-  field-here =
-      let more : suc k < length (l .fields) = omega arith in
-      rw (add-one k) (l .field (suc k) more (omega arith))
-
-  pub field-stands : Stands s (lineAt s at .ends) k
-  field-stands = record { few = few; ordered = field-here .ordered; inside = omega (arith, field-here .inside) }
-
-  pub field-text : fieldText s (lineAt s at .ends) k ≡ getD (l .fields) (k + 1) []
-  field-text = field-here .is
-
--- It is blank where it starts at its end
+-- A field is blank where it starts at its end
 pub blank-field : (s : Text) (ends : List Place) (k : ℕ) → Stands s ends k
     → eqb (getD ends k 0 + 1) (getD ends (k + 1) 0) ≡ same (fieldText s ends k) []
 blank-field s ends k h = go (eqb (getD ends k 0 + 1) (getD ends (k + 1) 0)) refl (fieldText s ends k) refl

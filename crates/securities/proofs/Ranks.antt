@@ -106,17 +106,7 @@ pushed own (suc most) [] h = absurd (omega arith)
 pushed own (suc most) (n ∷ ns) h = ap (λ (l : List ℕ). own ∷ l) (pushed n most ns (omega arith))
 
 module _ (own : ℕ) where
-  -- What is there is not put in again
-  pub row-same : (ns : List ℕ) → rankedOf ns own .there ≡ true → inRow own ns ≡ ns
-  row-same ns = go (stands own ns)
-    where
-      go : {ns : List ℕ} {s : Standing} → Stands own ns s → s .there ≡ true → inRow own ns ≡ ns
-      go behind t = never t
-      go (here {n} {ns} e) t = row-there own n ns (sym e)
-      go (ahead h) t = never t
-      go (further {n} {ns} h rest) t = row-on own n ns h ∙ ap (λ (l : List ℕ). n ∷ l) (go rest t)
-
-  -- What is not is put in at its rank
+  -- What is not there is put in at its rank
   pub row-more : (ns : List ℕ) → rankedOf ns own .there ≡ false → length (inRow own ns) ≡ suc (length ns)
   row-more ns = go (stands own ns)
     where

@@ -4,12 +4,12 @@ use Prim.Native.Nat.{ℕ, zero, suc, _+_, _≤_, _<_}
 use native.Mathlib.Omega.{arith}
 use mathlib.Core.Bool.{Bool, true, false, not, _&&_, _||_}
 use mathlib.Core.List.{List, [], _∷_, _++_, map, reverse, reverse-cons}
-use mathlib.Core.Option.{Option, none, some, Option·getD}
+use mathlib.Core.Option.{none, Option·getD}
 use mathlib.Core.Path.{_≡_, refl, sym, ap, ap₂, _∙_, subst}
 use lib.Dec.{T, eqb, ltb, ltb→lt}
 use lib.ListN.{length, take, set, replicate}
-use Rattle.paper.specs.Units.{Text, Number, Date, Day, Currency, Class}
-use Rattle.paper.specs.Days.{day, dayOf}
+use Rattle.paper.specs.Units.{Text, Number, Currency, Class}
+use Rattle.paper.specs.Days.{day}
 use Rattle.paper.specs.Lists.{between}
 use Rattle.paper.specs.Text.{isCode, isCurrency}
 use Rattle.paper.specs.Rows as paper
@@ -18,7 +18,7 @@ use Rattle.paper.specs.Valuation.{classOf}
 use Rattle.paper.specs.Refusals.{RowKind, isDuration, securityKind}
 use Rattle.paper.specs.Tables.{hold}
 use Rattle.paper.proofs.Lists.{tests, both, bounds, Each, nil, cons, each-map}
-use Rattle.paper.proofs.Days.{day-below}
+use Rattle.paper.proofs.Days.{day-low}
 use Rattle.paper.proofs.Currencies.{currencies-reverse}
 use Rattle.paper.proofs.Rules.{SecurityFacts, security-facts}
 use Rattle.places.specs.Places.{Place, endedLength}
@@ -57,14 +57,6 @@ record Formed (s : paper.SecurityRow) : Type 0 where
 
 formed : (s : paper.SecurityRow) → T (hold (securityKind [] .own s)) → Formed s
 formed s h = record { code = search tests; currency = search tests depth 8; duration = search tests depth 8 }
-
--- A real day is one of 400 years
-day-low : (date : Date) → day date < 146_097
-day-low date = go (dayOf date) refl
-  where
-    go : (o : Option Day) → dayOf date ≡ o → Option·getD o 0 < 146_097
-    go none e = omega arith
-    go (some d) e = day-below date d e
 
 -- Its numbers are in their ranges
 small : (sheet : Text) (at : Place) (s : paper.SecurityRow) → T (hold (securityKind [] .own s)) → Small (heldRow sheet at s)

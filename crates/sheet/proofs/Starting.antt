@@ -5,21 +5,20 @@ use native.Mathlib.Omega.{arith}
 use mathlib.Core.Bool.{Bool, true, false, _&&_}
 use mathlib.Core.List.{List, [], _∷_, tail}
 use mathlib.Core.Logic.{⊎-elim}
-use mathlib.Core.Option.{Option, none, some, Option·getD}
+use mathlib.Core.Option.{Option, none, some}
 use mathlib.Core.Path.{_≡_, refl, sym, ap, _∙_, subst}
 use borrow.Author.Tests.{ltb-true, ltb-false}
 use lib.Dec.{T, eqb, ltb}
 use lib.ListN.{length, getD, take, drop}
 use Rattle.paper.specs.Units.{Text, Fields, Number, Date, Day}
-use Rattle.paper.specs.Days.{isDay, dayOf, day}
+use Rattle.paper.specs.Days.{isDay, day}
 use Rattle.paper.specs.Text.{ascii, lines, same}
-use Rattle.paper.specs.Lists.{given}
 use Rattle.paper.specs.Rows.{readDate, Tables}
 use Rattle.paper.specs.Refusals.{Outcome, refused, accepted, _>>=_, judged, dateKind}
 use Rattle.paper.specs.Sheet.{Rest, header, begins, dateRow, readTables, readSheet}
 use Rattle.paper.specs.Tables.{hold}
-use Rattle.paper.proofs.Lists.{tests, both, never}
-use Rattle.paper.proofs.Days.{day-below}
+use Rattle.paper.proofs.Lists.{tests, both}
+use Rattle.paper.proofs.Days.{day-low}
 use Rattle.paper.proofs.Views.{header-written}
 use Rattle.places.specs.Places.{Place, endedLength, lineAt}
 use Rattle.places.proofs.Places.{ended-append, line-there, no-line, unended-line, ended-most}
@@ -105,14 +104,6 @@ words =
       number = λ m n e. cc;
     }
 
--- A real date's day is one of the table's
-day-under : (d : Date) → isDay d ≡ true → day d < 146_097
-day-under d real = go (dayOf d) refl real
-  where
-    go : (o : Option Day) → dayOf d ≡ o → given o ≡ true → Option·getD o 0 < 146_097
-    go none k e = never e
-    go (some x) k e = day-below d x k
-
 -- A D row that was read: the date of its day, and the next line
 pub record DateThere (sheet : Text) (today : Day) (next : Place) : Type 0 where
   pub date : Date
@@ -139,7 +130,7 @@ module _ (sheet : Text) (e : goesOn sheet 6 (endedLength sheet) 68 ≡ true) whe
         date = d;
         its-day = sym its;
         rules = own;
-        below = subst (λ (x : Day). x < 146_097) its (day-under d real);
+        below = subst (λ (x : Day). x < 146_097) its (day-low d);
         within = l .most;
         read =
             ap (behindRow sheet) (row-judged dateKind [] 2 (fieldsAt sheet 6) d (taken .1) shape)

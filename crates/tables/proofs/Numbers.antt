@@ -1,5 +1,5 @@
--- Codes and currencies as numbers: what their bytes are, how high the numbers are, and that they stand to each other as the texts
--- do. Said once, over the base of the last byte.
+-- Letters, codes and currencies as numbers: how high the numbers are, what the bytes of codes and currencies are, and that their
+-- numbers stand to each other as the texts do. That is said once, over the base of the last byte.
 use Prim.Native.Nat.{ℕ, zero, suc, _+_, _-_, _*_, _^_, _≤_, _<_}
 use native.Mathlib.Nat.{pow-succ', lt-trans}
 use native.Mathlib.Omega.{arith}
@@ -13,11 +13,27 @@ use lib.Seq.{drop-drop}
 use Rattle.paper.specs.Units.{Byte, Text, Code, Currency}
 use Rattle.paper.specs.Lists.{between, every}
 use Rattle.paper.specs.Text.{same, before, isDigit, isLetter, isCode, isCurrency}
+use Rattle.paper.specs.Rows.{Kind, government, corporate, inflation, floating, Trade, repo, cash, Side, seller, purchaser}
 use Rattle.paper.proofs.Lists.{never, both, within, bounds, every-cons, every-append, every-weaker}
 use Rattle.paper.proofs.Fields.{code-form, code-parts}
 use Rattle.paper.proofs.Order.{same-refl, before-self, before-not-after, before-not-same, after-not-same}
 use Rattle.paper.proofs.Order.{Compared, first, equal, second, compared}
-use Rattle.tables.specs.Numbers.{bytesFrom, codeNumber, currencyNumber}
+use Rattle.tables.specs.Numbers.{kindNumber, tradeNumber, sideNumber, bytesFrom, codeNumber, currencyNumber}
+
+-- Few numbers stand for letters
+pub kind-below : (k : Kind) → kindNumber k < 4
+kind-below government = omega arith
+kind-below corporate = omega arith
+kind-below inflation = omega arith
+kind-below floating = omega arith
+
+pub trade-most : (trade : Trade) → tradeNumber trade ≤ 1
+trade-most repo = omega arith
+trade-most cash = omega arith
+
+pub side-most : (side : Side) → sideNumber side ≤ 1
+side-most seller = omega arith
+side-most purchaser = omega arith
 
 -- Bytes from `0` to `Z`, so many before the last, which counts less than a base
 pub data Coded (base : ℕ) : ℕ → Text → Type 0 where

@@ -4,8 +4,8 @@ use native.Mathlib.Nat.{le-refl}
 use native.Mathlib.Omega.{arith}
 use mathlib.Core.List.{List, [], _∷_, _++_, map, map-append, reverse, reverse-cons}
 use mathlib.Core.Path.{_≡_, refl, sym, ap, _∙_}
-use lib.ListN.{length, take, set, replicate, length-append, length-map, length-replicate, length-reverse}
-use lib.Seq.{length-take-le, take-take, take-append-seam, take-append-add, append-snoc, set-append-seam}
+use lib.ListN.{length, take, set, replicate, length-append, length-map, length-reverse}
+use lib.Seq.{take-take, take-append-seam, take-append-add, append-snoc, set-append-seam}
 use Rattle.tables.specs.Padded.{padded, tableOf}
 
 -- So many of one thing, up to so many
@@ -17,11 +17,6 @@ take-replicate (suc m) (suc k) x h = ap (λ (l : List _). x ∷ l) (take-replica
 -- An empty table
 pub padded-none : {H : Type 0} (most : ℕ) (x : H) → padded most x [] ≡ replicate most x
 padded-none most x = take-replicate most most x (le-refl most)
-
--- A table has its places
-pub padded-length : {H : Type 0} (most : ℕ) (x : H) (hs : List H) → length (padded most x hs) ≡ most
-padded-length most x hs =
-    length-take-le most (hs ++ replicate most x) (omega (arith, length-append hs (replicate most x), length-replicate most x))
 
 -- A table as what it holds and what is free
 pub padded-parts : {H : Type 0} (most free k : ℕ) (x : H) (hs : List H) → most ≡ length hs + free → free ≤ k

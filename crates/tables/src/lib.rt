@@ -146,7 +146,7 @@ pub fn no_classes() -> Classes
     ensures { λ r. ⌜ r ≡ classTable [] ⌝ }
 {
     Classes {
-        count: 0,
+        count: 0, // C rows
         rows: [no_class(); 40],
     }
 }
@@ -155,7 +155,7 @@ pub fn no_priorities() -> Priorities
     ensures { λ r. ⌜ r ≡ priorityTable [] ⌝ }
 {
     Priorities {
-        count: 0,
+        count: 0, // O rows
         rows: [no_priority(); 200],
     }
 }
@@ -164,7 +164,7 @@ pub fn no_currencies() -> Currencies
     ensures { λ r. ⌜ r ≡ currencyTable [] ⌝ }
 {
     Currencies {
-        count: 0,
+        count: 0, // currencies
         numbers: [0; 8],
     }
 }
@@ -173,7 +173,7 @@ pub fn no_securities() -> Securities
     ensures { λ r. ⌜ r ≡ securityTable [] [] ⌝ }
 {
     Securities {
-        count: 0,
+        count: 0, // S rows
         rows: [no_security(); 200],
         codes: [18446744073709551615; 256],
         currencies: no_currencies(),
@@ -184,7 +184,7 @@ pub fn no_trades() -> Trades
     ensures { λ r. ⌜ r ≡ tradeTable 0 [] [] ⌝ }
 {
     Trades {
-        count: 0,
+        count: 0, // T rows
         rows: [no_trade(); 500],
     }
 }

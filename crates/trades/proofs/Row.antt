@@ -13,13 +13,13 @@ use Rattle.paper.specs.Days.{dayOf, isDay, day}
 use Rattle.paper.specs.Lists.{between, given, when, _>>=_}
 use Rattle.paper.specs.Text.{same, signedIn, dateIn, isCode, orBlank}
 use Rattle.paper.specs.Rows as paper
-use Rattle.paper.specs.Rows.{Trade, repo, cash, Side, seller, purchaser, field, tradeIn, sideIn, readTrade}
+use Rattle.paper.specs.Rows.{Trade, repo, cash, Side, field, tradeIn, sideIn, readTrade}
 use Rattle.paper.specs.Refusals.{isRate, isTerm, tradeDates, tradeKind}
 use Rattle.tables.specs.Numbers.{tradeNumber, sideNumber, codeNumber, highest}
 use Rattle.places.specs.Places.{Place, lineAt, fieldText}
 use Rattle.fields.specs.Values.{orHighest, signedOr, isRead, isSignedRead, rangedIn, rateIn, letterIn, codeOr}
 use Rattle.places.specs.declared.Line.{Line}
-use Rattle.fields.proofs.Readings.{day-read, rate-read, code-read, trade-letter, side-letter}
+use Rattle.fields.proofs.Readings.{day-read, rate-read, trade-read, side-read, code-read, trade-letter, side-letter}
 use Rattle.sections.specs.Sections.{fieldsAt}
 use Rattle.sections.proofs.Reading.{Lined, split, following, closed, so-many, two-rules, lettered, ranged}
 use Rattle.trades.specs.Read.{heldRow, takenOf, tradeRead}
@@ -62,17 +62,6 @@ lasting : {A : Type 0} (other : A) (first : Date) (last : Text) (then : Day → 
 unfolding dateIn
 lasting other first [] then = sym (rw and-false) ∙ following 730 (omega arith) first 0 then other
 lasting other first (b ∷ t) then = following 730 (omega arith) first (dateIn (b ∷ t)) then other
-
--- Two letters each
-trade-read : (o : Option Trade) → isRead (orHighest (Option·map tradeNumber o)) ≡ given o
-trade-read none = refl
-trade-read (some repo) = refl
-trade-read (some cash) = refl
-
-side-read : (o : Option Side) → isRead (orHighest (Option·map sideNumber o)) ≡ given o
-side-read none = refl
-side-read (some seller) = refl
-side-read (some purchaser) = refl
 
 -- Whatever a test says
 either : {A : Type 0} (b : Bool) (x : A) → x ≡ cond b x x
@@ -229,8 +218,8 @@ module _ (sheet : Text) (at : Place) where
         ≡ tradeFrom place next (orHighest (Option·map tradeNumber (tradeIn (field 1 fs)))) (orHighest (Option·map sideNumber (sideIn (field 2 fs))))
         (field 3 fs) (field 4 fs) (field 5 fs) (field 6 fs) (field 7 fs) (field 8 fs)
     trade-fields =
-        lettered end true (tradeIn (field 1 fs)) tradeNumber _ with-trade (trade-read (tradeIn (field 1 fs))) (λ trade.
-        lettered end true (sideIn (field 2 fs)) sideNumber _ (with-side (tradeNumber trade)) (side-read (sideIn (field 2 fs))) λ side.
+        lettered end true (tradeIn (field 1 fs)) tradeNumber _ with-trade (trade-read (field 1 fs)) (λ trade.
+        lettered end true (sideIn (field 2 fs)) sideNumber _ (with-side (tradeNumber trade)) (side-read (field 2 fs)) λ side.
         ranged end (isCode (field 3 fs)) 1 100_000_000 (field 4 fs) _ (with-nominal (tradeNumber trade) (sideNumber side) (codeNumber (field 3 fs))) (omega arith)
         (λ nominal.
         ranged end (isCode (field 3 fs) && between 1 100_000_000 nominal) 1 30_000_000_000 (field 5 fs) _

@@ -3,28 +3,29 @@ use Prim.Native.Nat.{ℕ, _≤_, _<_}
 use native.Mathlib.Omega.{arith}
 use mathlib.Core.Bool.{Bool, true, false, cond, _&&_}
 use mathlib.Core.List.{List, [], _∷_}
-use mathlib.Core.Option.{Option, none, some, Option·getD}
+use mathlib.Core.Option.{Option, none, some}
 use mathlib.Core.Path.{_≡_, refl, sym, ap, _∙_}
 use borrow.Author.Tests.{ltb-true}
 use lib.Dec.{eqb, leb, ltb}
 use lib.ListN.{length, getD, take}
-use Rattle.paper.specs.Units.{Text, Number, Date, Day}
-use Rattle.paper.specs.Days.{dayOf, isDay, day, workingAfter}
+use Rattle.paper.specs.Units.{Text, Number, Day}
+use Rattle.paper.specs.Days.{day, workingAfter}
 use Rattle.paper.specs.Lists.{given}
 use Rattle.paper.specs.Text.{isCode}
 use Rattle.paper.specs.Rows as paper
-use Rattle.paper.specs.Rows.{repo, cash, seller, purchaser}
+use Rattle.paper.specs.Rows.{repo, cash}
 use Rattle.paper.specs.Valuation.{lastDay, margined, accrualDay}
 use Rattle.paper.specs.Refusals.{RowKind, Period, inPeriod, tradeKind}
-use Rattle.paper.proofs.Days.{day-below}
-use Rattle.paper.proofs.Lists.{never, tests}
+use Rattle.paper.proofs.Days.{day-low}
+use Rattle.paper.proofs.Lists.{tests}
 use Rattle.paper.proofs.Rules.{TradeFacts, trade-facts}
 use Rattle.places.specs.Places.{Place, endedLength}
-use Rattle.tables.specs.Numbers.{tradeNumber, sideNumber, numberPlace}
+use Rattle.tables.specs.Numbers.{tradeNumber, numberPlace}
 use Rattle.tables.specs.Held.{noSecurity, noTrade, heldTrade, tradeTable}
 use Rattle.tables.specs.declared.Securities.{Securities}
 use Rattle.tables.specs.declared.Trade.{Trade}
 use Rattle.tables.specs.declared.Trades.{Trades}
+use Rattle.tables.proofs.Numbers.{trade-most, side-most}
 use Rattle.sections.specs.Sections.{goesOn, broken}
 use Rattle.sections.proofs.Loops.{Kept, more-kept}
 use Rattle.sections.proofs.Rooms.{Room, Turn, Read, turn-kept}
@@ -75,24 +76,9 @@ accrual-below false h k = k
 
 -- ---- a row's numbers
 
-real-below : (d : Date) → isDay d ≡ true → day d < 146_097
-real-below d e = go (dayOf d) (day-below d) e
-  where
-    go : (o : Option Day) → ((x : Day) → o ≡ some x → x < 146_097) → given o ≡ true → Option·getD o 0 < 146_097
-    go none low e = never e
-    go (some x) low e = low x refl
-
-trade-most : (trade : paper.Trade) → tradeNumber trade ≤ 1
-trade-most repo = omega arith
-trade-most cash = omega arith
-
-side-most : (side : paper.Side) → sideNumber side ≤ 1
-side-most seller = omega arith
-side-most purchaser = omega arith
-
 small : (sheet : Text) (at : Place) (t : paper.TradeRow) → TradeFacts t → Small (heldRow sheet at t)
 small sheet at t f =
-    record { nominal = f .nominal-high; first = real-below (t .first) (f .first); trade = trade-most (t .trade); side = side-most (t .side) }
+    record { nominal = f .nominal-high; first = day-low (t .first); trade = trade-most (t .trade); side = side-most (t .side) }
 
 -- ---- what the code makes of a row
 
@@ -186,8 +172,8 @@ module _ (today : Day) (securities : Securities) {sheet : Text} {from : Place} {
     (turn : Turn (room today securities) sheet from rows count at) (on : goesOn sheet at (endedLength sheet) 84 ≡ true)
     {t : TradeRow} {next : Place} (read : Read (room today securities) turn on t next) {working : Day} (is-working : working ≡ workingAfter today) where
   -- A row that was read is judged as the paper judges it
-  pub same : brokenRow today working securities count t ≡ broken (tradeKind today (periodIn securities) .others (turn .above) (read .row-is))
-  same =
+  pub judged-same : brokenRow today working securities count t ≡ broken (tradeKind today (periodIn securities) .others (turn .above) (read .row-is))
+  judged-same =
       let own = read .own in
       let coded : isCode (read .row-is .code) ≡ true = search tests in
       rw (turn .going .counted, sym (read .held-is)) (judged-alike today working securities is-working sheet at (read .row-is) (turn .above) coded)
@@ -200,7 +186,7 @@ module _ (today : Day) (securities : Securities) {sheet : Text} {from : Place} {
     turn-free = ltb-true count 500 (room-there .0)
 
     pub turn-small : Small t
-    turn-small = rw (sym (read .held-is)) (go (turn-kept (room today securities) turn on read same none))
+    turn-small = rw (sym (read .held-is)) (go (turn-kept (room today securities) turn on read judged-same none))
       where
         go : Kept (tradeKind today (periodIn securities)) (read .row-is ∷ turn .above) → Small (heldRow sheet at (read .row-is))
         go (more-kept h kept) = small sheet at (read .row-is) (trade-facts today (periodIn securities) (turn .above) (read .row-is) h)

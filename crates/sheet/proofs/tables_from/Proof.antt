@@ -1,4 +1,5 @@
--- `sheet::tables_from` meets its contract: section after section, each is refused or gone on from.
+-- `sheet::tables_from` meets its contract: section after section, each is refused or gone on from. How the sections went is `c`, `o`,
+-- `b` (of the bonds, for `s` is the sheet) and `t`, and their rows are `cs`, `os` and `ss`.
 use Prim.Native.Nat.{ℕ, _+_, _≤_}
 use native.Mathlib.Omega.{arith}
 use mathlib.Core.Bool.{true}

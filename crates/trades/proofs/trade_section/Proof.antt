@@ -21,7 +21,7 @@ use Rattle.trades.specs.declared.TradeRow.{TradeRow}
 use Rattle.trades.specs.declared.TradeRead.{TradeRead}
 use Rattle.trades.specs.declared.TradeSection.{TradeSection}
 use Rattle.sections.proofs.Rooms.{Room, Turn, turn-start, turn-refused, Read, turn-row, turn-broken, turn-more, turn-counted, turn-ended}
-use Rattle.trades.proofs.Turns.{place-below, accrual-below, knownOf, brokenRow, keptRow, room, same, turn-free, turn-small, kept-is}
+use Rattle.trades.proofs.Turns.{place-below, accrual-below, knownOf, brokenRow, keptRow, room, judged-same, turn-free, turn-small, kept-is}
 use Rattle.trades.proofs.trade_section.Statement.{statement}
 use Rattle.trades.proofs.trade_section.Tie as tie
 
@@ -157,7 +157,7 @@ returns-2 c =
     let inv = t .before .before .loop .inv in
     let a = begin (t .before .before) .args in
     c .refused2 .ensures
-    ∙ turn-broken (its-room (t .before .before)) inv (on t) (there r) (judged b ∙ same (a .today) (a .securities) inv (on t) (there r) (begin (t .before .before) .pre .0 .3)) (c .before .if2 .taken)
+    ∙ turn-broken (its-room (t .before .before)) inv (on t) (there r) (judged b ∙ judged-same (a .today) (a .securities) inv (on t) (there r) (begin (t .before .before) .pre .0 .3)) (c .before .if2 .taken)
 
 -- It breaks no rule
 module _ (c : tie.Else2 Inv-loop μ-loop) where
@@ -211,7 +211,7 @@ loop-again c =
     let r = there (its-row e) in
     let a = begin l .args in
     let w = begin l .pre .0 .3 in
-    turn-more (its-room l) (l .loop .inv) (on (turn (its-row e))) r (judged (e .before) ∙ same (a .today) (a .securities) (l .loop .inv) (on (turn (its-row e))) r w) (e .if2 .left) (free e)
+    turn-more (its-room l) (l .loop .inv) (on (turn (its-row e))) r (judged (e .before) ∙ judged-same (a .today) (a .securities) (l .loop .inv) (on (turn (its-row e))) r w) (e .if2 .left) (free e)
     (kept c ∙ kept-is (a .today) (a .securities) (l .loop .inv) (on (turn (its-row e))) r w (unbroken e))
 
 returns-3 : tie.Need-returns-3 Inv-loop μ-loop
