@@ -9,9 +9,6 @@ use Rattle.classes.proofs.broken.Tie as tie
 returns : tie.Need-returns
 returns c = rw (le-ltb (c .before .args .count) 40 (c .if1 .taken), brokenOf)
 
-fits-requires : tie.Need-fits-requires
-fits-requires c κs = search needs
-
 returns-2 : tie.Need-returns-2
 returns-2 c = rw (lt-ltb (c .before .before .before .args .count) 40 (c .before .before .if1 .left), sym (c .before .fits2 .ensures) ∙ c .if2 .taken, brokenOf)
 
@@ -19,4 +16,4 @@ returns-3 : tie.Need-returns-3
 returns-3 c = rw (lt-ltb (c .before .before .before .args .count) 40 (c .before .before .if1 .left), sym (c .before .fits2 .ensures) ∙ c .if2 .left, brokenOf)
 
 pub broken-spec : {M : Type 1} → statement M
-broken-spec = tie.close (tie.spec returns fits-requires returns-2 returns-3)
+broken-spec = tie.close (tie.spec returns (λ c κs. search needs) returns-2 returns-3)

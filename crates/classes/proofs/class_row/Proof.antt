@@ -39,21 +39,6 @@ duration-at-requires c κs = its-line (c .before .before .before .before .before
 number-at-requires-2 : tie.Need-number-at-requires-2
 number-at-requires-2 c κs = its-line (c .before .before .before .before .before .before .before .before) .stands 3 (omega arith)
 
-is-read-requires : tie.Need-is-read-requires
-is-read-requires c κs = search needs
-
-is-read-requires-2 : tie.Need-is-read-requires-2
-is-read-requires-2 c κs = search needs
-
-is-read-requires-3 : tie.Need-is-read-requires-3
-is-read-requires-3 c κs = search needs
-
-is-read-requires-4 : tie.Need-is-read-requires-4
-is-read-requires-4 c κs = search needs
-
-taken-requires : tie.Need-taken-requires
-taken-requires c κs = search needs
-
 -- Back from where all are read, field by field
 returns-2 : tie.Need-returns-2
 returns-2 c =
@@ -77,9 +62,9 @@ class-row-spec =
     kind-at-requires
     duration-at-requires
     number-at-requires-2
-    is-read-requires
-    is-read-requires-2
-    is-read-requires-3
-    is-read-requires-4
-    taken-requires
+    (λ c κs. search needs)
+    (λ c κs. search needs)
+    (λ c κs. search needs)
+    (λ c κs. search needs)
+    (λ c κs. search needs)
     returns-2)

@@ -23,12 +23,6 @@ Inv-loop s from end rows₀ count₀ at₀ seen₀ rows count at seen = Turn s f
 abbrev μ-loop : tie.MeasureT-loop
 μ-loop s from end rows₀ count₀ at₀ seen₀ rows count at seen = end - at
 
-no-classes-requires : tie.Need-no-classes-requires Inv-loop μ-loop
-no-classes-requires c κs = search needs
-
-none-seen-requires : tie.Need-none-seen-requires Inv-loop μ-loop
-none-seen-requires c κs = search needs
-
 loop-holds : tie.Need-loop-holds Inv-loop μ-loop
 loop-holds c =
     let e = c .before .before .before .before in
@@ -51,17 +45,8 @@ class-row-requires c κs =
     let e = c .before .before .before .before .before .before .before in
     (goes-before (e .args .s .now) (c .before .before .loop .at) (e .args .end) 67 (sym (c .before .goes-on .ensures) ∙ c .if1 .taken), e .pre .1)
 
-enum-known-read : tie.Need-enum-known-read Inv-loop μ-loop
-enum-known-read c = search needs
-
 enum-told : tie.Need-enum-told Inv-loop μ-loop
 enum-told c = search needs
-
-class-number-requires : tie.Need-class-number-requires Inv-loop μ-loop
-class-number-requires c κs = search needs
-
-refused-requires : tie.Need-refused-requires Inv-loop μ-loop
-refused-requires c κs = search needs
 
 returns : tie.Need-returns Inv-loop μ-loop
 returns c =
@@ -85,9 +70,6 @@ there c =
 broken-requires : tie.Need-broken-requires Inv-loop μ-loop
 broken-requires c κs = turn-kind (turn c .before .before .loop .inv) (tested (turn c .before) ∙ turn c .if1 .taken) (there c)
 
-refused-requires-2 : tie.Need-refused-requires-2 Inv-loop μ-loop
-refused-requires-2 c κs = search needs
-
 returns-2 : tie.Need-returns-2 Inv-loop μ-loop
 returns-2 c =
     let b = c .before .before in
@@ -109,21 +91,12 @@ free c =
     let t = turn (c .before .before) in
     turn-free (t .before .before .loop .inv) (tested (t .before) ∙ t .if1 .taken) (there (c .before .before)) (unbroken c)
 
-mul-rows : tie.Need-mul-rows Inv-loop μ-loop
-mul-rows c = omega (arith, free c)
-
-array-set-from-rows : tie.Need-array-set-from-rows Inv-loop μ-loop
-array-set-from-rows c = free c
-
 after-requires : tie.Need-after-requires Inv-loop μ-loop
 after-requires c κs =
     let t = turn (c .before .before) in
     let inv = t .before .before .loop .inv in
     let on = tested (t .before) ∙ t .if1 .taken in
     (turn-kind inv on (there (c .before .before)), turn-border inv on (there (c .before .before)))
-
-add-count : tie.Need-add-count Inv-loop μ-loop
-add-count c = omega (arith, free (c .before))
 
 loop-less : tie.Need-loop-less Inv-loop μ-loop
 loop-less c =
@@ -147,23 +120,23 @@ class-section-spec =
     (tie.spec
     Inv-loop
     μ-loop
-    no-classes-requires
-    none-seen-requires
+    (λ c κs. search needs)
+    (λ c κs. search needs)
     loop-holds
     goes-on-requires
     class-row-requires
-    enum-known-read
+    (λ c. search needs)
     enum-told
-    class-number-requires
-    refused-requires
+    (λ c κs. search needs)
+    (λ c κs. search needs)
     returns
     broken-requires
-    refused-requires-2
+    (λ c κs. search needs)
     returns-2
-    mul-rows
-    array-set-from-rows
+    (λ c. omega (arith, free c))
+    (λ c. free c)
     after-requires
-    add-count
+    (λ c. omega (arith, free (c .before)))
     loop-less
     loop-again
     returns-3)

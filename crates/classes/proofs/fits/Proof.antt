@@ -4,12 +4,6 @@ use borrow.Author.Tests.{lt-ltb, le-ltb}
 use Rattle.classes.proofs.fits.Statement.{statement}
 use Rattle.classes.proofs.fits.Tie as tie
 
-mul-least : tie.Need-mul-least
-mul-least c = search needs
-
-element-copy-out-least : tie.Need-element-copy-out-least
-element-copy-out-least c = search needs
-
 returns : tie.Need-returns
 returns c = simp (lt-ltb _ _ (c .if1 .taken))
 
@@ -17,4 +11,4 @@ returns-2 : tie.Need-returns-2
 returns-2 c = simp (le-ltb _ _ (c .if1 .left))
 
 pub fits-spec : {M : Type 1} → statement M
-fits-spec = tie.close (tie.spec mul-least element-copy-out-least returns returns-2)
+fits-spec = tie.close (tie.spec (λ c. search needs) (λ c. search needs) returns returns-2)

@@ -24,15 +24,6 @@ total years before y month day e b =
 known : (c : tie.Start) → Real (c .args .y) (c .args .month) (c .args .day)
 known c = real (c .args .y) (c .args .month) (c .args .day) (c .pre .1)
 
-sub-result : tie.Need-sub-result
-sub-result c = omega (arith, known c .low)
-
-mul-result : tie.Need-mul-result
-mul-result c = omega (arith, known c .high)
-
-element-copy-out-result : tie.Need-element-copy-out-result
-element-copy-out-result c = omega (arith, known c .high)
-
 days-before-requires : tie.Need-days-before-requires
 days-before-requires c κs =
     let a = c .before .args in
@@ -51,17 +42,14 @@ add-result-2 c =
     (subst (λ (d : Day). d < 146_097) (sym (returns c)) (day-in-below (a .y) (a .month) (a .day) (known (c .before .before))))
     tt
 
-add-result : tie.Need-add-result
-add-result c = omega (arith, add-result-2 c)
-
 pub day-in-spec : {M : Type 1} → statement M
 day-in-spec =
     tie.close
     (tie.spec
-    sub-result
-    mul-result
-    element-copy-out-result
+    (λ c. omega (arith, known c .low))
+    (λ c. omega (arith, known c .high))
+    (λ c. omega (arith, known c .high))
     days-before-requires
-    add-result
+    (λ c. omega (arith, add-result-2 c))
     add-result-2
     returns)

@@ -12,9 +12,6 @@ returns c = simp (lt-leb _ _ (c .if1 .taken))
 returns-2 : tie.Need-returns-2
 returns-2 c = simp (le-leb _ _ (c .before .if1 .left), lt-leb _ _ (c .if2 .taken))
 
-is-real-requires : tie.Need-is-real-requires
-is-real-requires c κs = search needs
-
 day-in-requires : tie.Need-day-in-requires
 day-in-requires c κs = (c .before .before .before .before .pre, sym (c .before .is-real .ensures) ∙ c .if3 .taken)
 
@@ -31,4 +28,4 @@ returns-4 c =
 
 pub day-of-spec : {M : Type 1} → statement M
 day-of-spec =
-    tie.close (tie.spec returns returns-2 is-real-requires day-in-requires returns-3 returns-4)
+    tie.close (tie.spec returns returns-2 (λ c κs. search needs) day-in-requires returns-3 returns-4)

@@ -20,24 +20,12 @@ since-march leap? y month h m e =
     ∙ before-month leap? month h
     ∙ ap (λ (b : Bool). sum (take month (monthDays b))) (sym e)
 
-even-before-requires : tie.Need-even-before-requires
-even-before-requires c κs = search needs
-
 returns : tie.Need-returns
 returns c =
     let s = c .before .before in
     c .before .even-before .ensures
     ∙ ap (λ (b : Bool). cond b (even (s .args .month)) (cond (leap (s .args .y)) (even (s .args .month) - 1) (even (s .args .month) - 2))) (sym (lt-ltb (s .args .month) 2 (c .if1 .taken)))
     ∙ before-month (leap (s .args .y)) (s .args .month) (s .pre)
-
-is-leap-requires : tie.Need-is-leap-requires
-is-leap-requires c κs = search needs
-
-sub-result : tie.Need-sub-result
-sub-result c = search needs
-
-sub-result-2 : tie.Need-sub-result-2
-sub-result-2 c = search needs
 
 returns-2 : tie.Need-returns-2
 returns-2 c =
@@ -56,4 +44,4 @@ returns-3 c =
 pub days-before-spec : {M : Type 1} → statement M
 days-before-spec =
     tie.close
-    (tie.spec even-before-requires returns is-leap-requires sub-result sub-result-2 returns-2 returns-3)
+    (tie.spec (λ c κs. search needs) returns (λ c κs. search needs) (λ c. search needs) (λ c. search needs) returns-2 returns-3)

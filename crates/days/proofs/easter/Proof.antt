@@ -19,9 +19,6 @@ sunday march moon from spring moon' p q r = rw (r, p, q, add-one) refl
 day-in-requires : tie.Need-day-in-requires
 day-in-requires c κs = (c .pre .0, real-day (c .args .y) (c .pre .1) 2 20 refl)
 
-spring-moon-requires : tie.Need-spring-moon-requires
-spring-moon-requires c κs = search needs
-
 -- The moon's day as the code has it is below what the paper's is
 moon-fits : (c : tie.After-spring-moon) → c .before .day-in .result + c .spring-moon .result < 146_125
 moon-fits c =
@@ -30,21 +27,6 @@ moon-fits c =
     subst⁻¹ (λ (d : Day). d < 146_125)
     (ap (λ (d : Day). d + c .spring-moon .result) (c .before .day-in .ensures) ∙ ap (λ (m : Days). dayIn y 2 20 + m) (c .spring-moon .ensures))
     (moon-below y (s .pre .1))
-
-add-moon : tie.Need-add-moon
-add-moon c = omega (arith, moon-fits c)
-
-add-next : tie.Need-add-next
-add-next c = omega (arith, moon-fits c)
-
-weekday-requires : tie.Need-weekday-requires
-weekday-requires c κs = search needs
-
-sub-result : tie.Need-sub-result
-sub-result c = search needs
-
-add-result : tie.Need-add-result
-add-result c = omega (arith, moon-fits (c .before))
 
 returns : tie.Need-returns
 returns c =
@@ -56,10 +38,10 @@ easter-spec =
     tie.close
     (tie.spec
     day-in-requires
-    spring-moon-requires
-    add-moon
-    add-next
-    weekday-requires
-    sub-result
-    add-result
+    (λ c κs. search needs)
+    (λ c. omega (arith, moon-fits c))
+    (λ c. omega (arith, moon-fits c))
+    (λ c κs. search needs)
+    (λ c. search needs)
+    (λ c. omega (arith, moon-fits (c .before)))
     returns)

@@ -9,11 +9,8 @@ use Rattle.days.proofs.follows.Tie as tie
 returns : tie.Need-returns
 returns c = rw (lt-leb 1 (c .before .args .second - c .before .args .first) (omega arith))
 
-sub-result : tie.Need-sub-result
-sub-result c = search needs
-
 returns-2 : tie.Need-returns-2
 returns-2 c = rw (le-leb 1 (c .before .args .second - c .before .args .first) (omega arith))
 
 pub follows-spec : {M : Type 1} → statement M
-follows-spec = tie.close (tie.spec returns sub-result returns-2)
+follows-spec = tie.close (tie.spec returns (λ c. search needs) returns-2)

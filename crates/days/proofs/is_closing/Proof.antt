@@ -38,9 +38,6 @@ after tests s = drop tests (closingDays (s .args .y))
 abbrev Left : tie.Start → ℕ → Type 0
 Left s tests = isClosing (s .args .y) (s .args .day) ≡ oneOf (after tests s) (s .args .day)
 
-easter-requires : tie.Need-easter-requires
-easter-requires c κs = search needs
-
 day-in-requires : tie.Need-day-in-requires
 day-in-requires c κs = let s = c .before in (s .pre .0, real-day (s .args .y) (s .pre .1) 0 0 refl)
 
@@ -49,9 +46,6 @@ returns c = here _ _ _ (after 1 (c .before .before .before)) (c .before .day-in 
 
 left-1 : (c : tie.Else1) → Left (c .before .before .before) 1
 left-1 c = past _ _ _ (after 1 (c .before .before .before)) (c .before .day-in .ensures) (c .if1 .left)
-
-sub-if2 : tie.Need-sub-if2
-sub-if2 c = search needs
 
 returns-2 : tie.Need-returns-2
 returns-2 c = here _ _ _ (after 2 (c .before .before .before .before)) (ap (λ (d : Day). d - 2) (c .before .before .before .easter .ensures)) (c .if2 .taken) ∙ sym (left-1 (c .before))
@@ -106,10 +100,10 @@ pub is-closing-spec : {M : Type 1} → statement M
 is-closing-spec =
     tie.close
     (tie.spec
-    easter-requires
+    (λ c κs. search needs)
     day-in-requires
     returns
-    sub-if2
+    (λ c. search needs)
     returns-2
     add-if3
     returns-3

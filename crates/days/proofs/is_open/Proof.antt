@@ -21,16 +21,10 @@ weekdays : (d : Day) → weekday d ≤ 4 → not (isClosing (yearOf d) d) ≡ is
 unfolding isOpen
 weekdays d h = rw (lt-ltb (weekday d) 5 (omega arith)) refl
 
-weekday-requires : tie.Need-weekday-requires
-weekday-requires c κs = search needs
-
 returns : tie.Need-returns
 returns c =
     let d = c .before .before .args .day in
     weekend d (subst (λ (w : ℕ). 4 < w) (c .before .weekday .ensures) (c .if1 .taken))
-
-year-of-requires : tie.Need-year-of-requires
-year-of-requires c κs = search needs
 
 is-closing-requires : tie.Need-is-closing-requires
 is-closing-requires c κs =
@@ -46,4 +40,4 @@ returns-2 c =
     ∙ weekdays d (subst (λ (x : ℕ). x ≤ 4) (w .weekday .ensures) (y .before .if1 .left))
 
 pub is-open-spec : {M : Type 1} → statement M
-is-open-spec = tie.close (tie.spec weekday-requires returns year-of-requires is-closing-requires returns-2)
+is-open-spec = tie.close (tie.spec (λ c κs. search needs) returns (λ c κs. search needs) is-closing-requires returns-2)

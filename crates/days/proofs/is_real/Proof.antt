@@ -10,11 +10,8 @@ returns c = simp (lt-leb _ _ (c .if1 .taken))
 returns-2 : tie.Need-returns-2
 returns-2 c = simp (le-leb _ _ (c .before .if1 .left), lt-leb _ _ (c .if2 .taken))
 
-month-days-requires : tie.Need-month-days-requires
-month-days-requires c κs = search needs
-
 returns-3 : tie.Need-returns-3
 returns-3 c = simp (le-leb _ _ (c .before .before .if1 .left), le-leb _ _ (c .before .if2 .left), c .month-days .ensures)
 
 pub is-real-spec : {M : Type 1} → statement M
-is-real-spec = tie.close (tie.spec returns returns-2 month-days-requires returns-3)
+is-real-spec = tie.close (tie.spec returns returns-2 (λ c κs. search needs) returns-3)

@@ -18,21 +18,6 @@ february leap? y month e l = rw e (ap (λ (b : Bool). cond b 29 28) (sym l))
 returns : tie.Need-returns
 returns c = sym (List·getD-eq-default (monthDays (leap (c .before .args .y))) 0 (c .if1 .taken))
 
-is-leap-requires : tie.Need-is-leap-requires
-is-leap-requires c κs = search needs
-
-add-even-before : tie.Need-add-even-before
-add-even-before c = search needs
-
-even-before-requires : tie.Need-even-before-requires
-even-before-requires c κs = search needs
-
-even-before-requires-2 : tie.Need-even-before-requires-2
-even-before-requires-2 c κs = search needs
-
-sub-result : tie.Need-sub-result
-sub-result c = search needs
-
 returns-2 : tie.Need-returns-2
 returns-2 c =
     let a = c .before .before .before .before .args in
@@ -56,11 +41,11 @@ month-days-spec =
     tie.close
     (tie.spec
     returns
-    is-leap-requires
-    add-even-before
-    even-before-requires
-    even-before-requires-2
-    sub-result
+    (λ c κs. search needs)
+    (λ c. search needs)
+    (λ c κs. search needs)
+    (λ c κs. search needs)
+    (λ c. search needs)
     returns-2
     returns-3
     returns-4)

@@ -26,27 +26,6 @@ late round cycle h l = rw (h, lt-ltb 10 cycle l) refl
 early : (round cycle : ℕ) → round ≡ 28 → cycle ≤ 10 → 28 ≡ moon round cycle
 early round cycle h l = rw (h, le-ltb 10 cycle l) refl
 
-sub-later : tie.Need-sub-later
-sub-later c = search needs
-
-mul-earlier : tie.Need-mul-earlier
-mul-earlier c = search needs
-
-add-earlier : tie.Need-add-earlier
-add-earlier c = search needs
-
-mul-round : tie.Need-mul-round
-mul-round c = search needs
-
-add-round : tie.Need-add-round
-add-round c = search needs
-
-add-round-2 : tie.Need-add-round-2
-add-round-2 c = search needs
-
-sub-round : tie.Need-sub-round
-sub-round c = search needs
-
 returns : tie.Need-returns
 returns c = let y = c .before .args .y in last (inRound y) (inCycle y) (c .if1 .taken)
 
@@ -63,13 +42,13 @@ pub spring-moon-spec : {M : Type 1} → statement M
 spring-moon-spec =
     tie.close
     (tie.spec
-    sub-later
-    mul-earlier
-    add-earlier
-    mul-round
-    add-round
-    add-round-2
-    sub-round
+    (λ c. search needs)
+    (λ c. search needs)
+    (λ c. search needs)
+    (λ c. search needs)
+    (λ c. search needs)
+    (λ c. search needs)
+    (λ c. search needs)
     returns
     returns-2
     returns-3

@@ -26,26 +26,11 @@ Inv-loop years day d₀ left₀ d left = (d + left ≤ day + 5) × (workingAfter
 abbrev μ-loop : tie.MeasureT-loop
 μ-loop years day d₀ left₀ d left = left
 
-add-d : tie.Need-add-d Inv-loop μ-loop
-add-d c = omega arith
-
 loop-holds : tie.Need-loop-holds Inv-loop μ-loop
 unfolding workingAfter
 loop-holds c =
     let next : suc (c .args .day) ≡ c .args .day + 1 = omega arith in
     (omega arith, ap (firstOpen daysTested) next)
-
-is-open-requires : tie.Need-is-open-requires Inv-loop μ-loop
-is-open-requires c κs = search needs
-
-add-d-2 : tie.Need-add-d-2 Inv-loop μ-loop
-add-d-2 c = omega arith
-
-sub-left : tie.Need-sub-left Inv-loop μ-loop
-sub-left c = omega arith
-
-loop-less : tie.Need-loop-less Inv-loop μ-loop
-loop-less c = omega arith
 
 loop-again : tie.Need-loop-again Inv-loop μ-loop
 loop-again c =
@@ -68,12 +53,12 @@ working-after-spec =
     (tie.spec
     Inv-loop
     μ-loop
-    add-d
+    (λ c. omega arith)
     loop-holds
-    is-open-requires
-    add-d-2
-    sub-left
-    loop-less
+    (λ c κs. search needs)
+    (λ c. omega arith)
+    (λ c. omega arith)
+    (λ c. omega arith)
     loop-again
     returns
     returns-2)

@@ -13,21 +13,6 @@ use Rattle.days.proofs.year_of.Tie as tie
 returns : tie.Need-returns
 returns c = sym (year-last (c .before .args .day) (c .if1 .taken))
 
-add-if2 : tie.Need-add-if2
-add-if2 c = search needs
-
-mul-if2 : tie.Need-mul-if2
-mul-if2 c = search needs
-
-element-copy-out-if2 : tie.Need-element-copy-out-if2
-element-copy-out-if2 c = search needs
-
-add-result : tie.Need-add-result
-add-result c = search needs
-
-add-result-2 : tie.Need-add-result-2
-add-result-2 c = search needs
-
 returns-2 : tie.Need-returns-2
 returns-2 c =
     let s = c .before .before .before in
@@ -43,10 +28,10 @@ year-of-spec =
     tie.close
     (tie.spec
     returns
-    add-if2
-    mul-if2
-    element-copy-out-if2
-    add-result
-    add-result-2
+    (λ c. search needs)
+    (λ c. search needs)
+    (λ c. search needs)
+    (λ c. search needs)
+    (λ c. search needs)
     returns-2
     returns-3)

@@ -34,15 +34,6 @@ there c = c .before .before .pre .0
 loop-holds : tie.Need-loop-holds Inv-loop μ-loop
 loop-holds c = start (c .before .args .s .now) (c .before .args .at) (c .before .pre .0)
 
-add-b : tie.Need-add-b Inv-loop μ-loop
-add-b c = omega (arith, there (c .before))
-
-shared-slice-read-b : tie.Need-shared-slice-read-b Inv-loop μ-loop
-shared-slice-read-b c = omega (arith, there (c .before .before))
-
-is-within-requires : tie.Need-is-within-requires Inv-loop μ-loop
-is-within-requires c κs = tt
-
 -- The byte that is read, and whether it is one of the table
 abbrev byte : tie.In-loop Inv-loop μ-loop → Byte
 byte c = let a = c .before .before .before .args in getD (a .s .now) (a .at + c .before .loop .i) 0
@@ -173,15 +164,6 @@ loop-less c = let k = c .before .before .before .before .before .before .before 
 loop-again : tie.Need-loop-again Inv-loop μ-loop
 loop-again c = again (c .before)
 
-add-last : tie.Need-add-last Inv-loop μ-loop
-add-last c = omega (arith, there (c .before))
-
-shared-slice-read-last : tie.Need-shared-slice-read-last Inv-loop μ-loop
-shared-slice-read-last c = omega (arith, there (c .before .before))
-
-is-within-requires-2 : tie.Need-is-within-requires-2 Inv-loop μ-loop
-is-within-requires-2 c κs = tt
-
 -- The last byte, and what is answered by it
 abbrev last : tie.After-loop Inv-loop μ-loop → Byte
 last c = let a = c .before .before .before .args in getD (a .s .now) (a .at + 11) 0
@@ -231,9 +213,6 @@ fits c =
     let all : k .before .loop .i ≡ 11 = omega (arith, r .count, k .loop-test .left) in
     rw all at (r .small)
 
-mul-result : tie.Need-mul-result Inv-loop μ-loop
-mul-result c = omega (arith, fits c)
-
 cast-result : tie.Need-cast-result Inv-loop μ-loop
 cast-result c = omega (arith, bounds 48 57 (last (c .before .before .before .before)) (digit (c .before)))
 
@@ -253,9 +232,9 @@ checked-number-spec =
     Inv-loop
     μ-loop
     loop-holds
-    add-b
-    shared-slice-read-b
-    is-within-requires
+    (λ c. omega (arith, there (c .before)))
+    (λ c. omega (arith, there (c .before .before)))
+    (λ c κs. tt)
     returns
     sub-more
     cast-more
@@ -272,15 +251,15 @@ checked-number-spec =
     add-i
     loop-less
     loop-again
-    add-last
-    shared-slice-read-last
-    is-within-requires-2
+    (λ c. omega (arith, there (c .before)))
+    (λ c. omega (arith, there (c .before .before)))
+    (λ c κs. tt)
     returns-3
     sub-digit
     cast-if5
     add-if5
     returns-4
-    mul-result
+    (λ c. omega (arith, fits c))
     cast-result
     add-result
     returns-5)

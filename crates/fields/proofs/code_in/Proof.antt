@@ -43,28 +43,10 @@ module _ (c : tie.After-is-within2) where
       let a = c .before .before .before .before .before .before .args in
       rw (c .before .before .is-within .ensures, c .is-within2 .ensures) (two-letters (a .s .now) (a .at) (a .end) (omega arith) (omega arith))
 
-sub-if1 : tie.Need-sub-if1
-sub-if1 c = search needs
-
 returns : tie.Need-returns
 returns c =
     let a = c .before .before .args in
     code-unsized (slice (a .at) (a .end) (a .s .now)) (part-unsized (a .s .now) (a .at) (a .end) 12 (omega arith) (c .if1 .taken))
-
-shared-slice-read-is-within : tie.Need-shared-slice-read-is-within
-shared-slice-read-is-within c = search needs
-
-is-within-requires : tie.Need-is-within-requires
-is-within-requires c κs = search needs
-
-add-is-within : tie.Need-add-is-within
-add-is-within c = search needs
-
-shared-slice-read-is-within-2 : tie.Need-shared-slice-read-is-within-2
-shared-slice-read-is-within-2 c = search needs
-
-is-within-requires-2 : tie.Need-is-within-requires-2
-is-within-requires-2 c κs = search needs
 
 checked-number-requires : tie.Need-checked-number-requires
 unfolding countsTable
@@ -86,13 +68,13 @@ pub code-in-spec : {M : Type 1} → statement M
 code-in-spec =
     tie.close
     (tie.spec
-    sub-if1
+    (λ c. search needs)
     returns
-    shared-slice-read-is-within
-    is-within-requires
-    add-is-within
-    shared-slice-read-is-within-2
-    is-within-requires-2
+    (λ c. search needs)
+    (λ c κs. search needs)
+    (λ c. search needs)
+    (λ c. search needs)
+    (λ c κs. search needs)
     checked-number-requires
     returns-2
     returns-3)

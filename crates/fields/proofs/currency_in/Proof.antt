@@ -45,37 +45,10 @@ three-bytes s at end inside three =
     rw (part-step s at end (omega arith) inside, part-step s (at + 1) end (omega arith) inside, last)
     (cc (every-step isLetter a (b ∷ c ∷ []), every-step isLetter b (c ∷ []), every-step isLetter c [], and-true (isLetter c), and-assoc (isLetter a) (isLetter b) (isLetter c)))
 
-sub-if1 : tie.Need-sub-if1
-sub-if1 c = search needs
-
 returns : tie.Need-returns
 returns c =
     let a = c .before .before .args in
     simp (part-unsized (a .s .now) (a .at) (a .end) 3 (omega arith) (c .if1 .taken))
-
-shared-slice-read-a : tie.Need-shared-slice-read-a
-shared-slice-read-a c = search needs
-
-add-b : tie.Need-add-b
-add-b c = search needs
-
-shared-slice-read-b : tie.Need-shared-slice-read-b
-shared-slice-read-b c = search needs
-
-add-c : tie.Need-add-c
-add-c c = search needs
-
-shared-slice-read-c : tie.Need-shared-slice-read-c
-shared-slice-read-c c = search needs
-
-is-within-requires : tie.Need-is-within-requires
-is-within-requires c κs = search needs
-
-is-within-requires-2 : tie.Need-is-within-requires-2
-is-within-requires-2 c κs = search needs
-
-is-within-requires-3 : tie.Need-is-within-requires-3
-is-within-requires-3 c κs = search needs
 
 -- What was asked of the three bytes
 tested : (c : tie.After-is-within3)
@@ -102,16 +75,16 @@ pub currency-in-spec : {M : Type 1} → statement M
 currency-in-spec =
     tie.close
     (tie.spec
-    sub-if1
+    (λ c. search needs)
     returns
-    shared-slice-read-a
-    add-b
-    shared-slice-read-b
-    add-c
-    shared-slice-read-c
-    is-within-requires
-    is-within-requires-2
-    is-within-requires-3
+    (λ c. search needs)
+    (λ c. search needs)
+    (λ c. search needs)
+    (λ c. search needs)
+    (λ c. search needs)
+    (λ c κs. search needs)
+    (λ c κs. search needs)
+    (λ c κs. search needs)
     three-number-requires
     returns-2
     returns-3)

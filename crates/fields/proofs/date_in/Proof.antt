@@ -34,17 +34,11 @@ eight-digits t n l e =
     let w = when-some (every isDigit t) (decimal 0 t) n e in
     simp (eq-eqb (length t) 8 l, w .0) (w .1)
 
-sub-if1 : tie.Need-sub-if1
-sub-if1 c = search needs
-
 returns : tie.Need-returns
 returns c =
     let a = c .before .before .args in
     let size = length-slice (a .at) (a .end) (a .s .now) (omega arith) in
     sym (not-eight (slice (a .at) (a .end) (a .s .now)) (λ e. c .if1 .taken (sym size ∙ e)))
-
-digits-in-requires : tie.Need-digits-in-requires
-digits-in-requires c κs = search needs
 
 returns-2 : tie.Need-returns-2
 returns-2 c =
@@ -63,4 +57,4 @@ returns-3 c =
 pub date-in-spec : {M : Type 1} → statement M
 date-in-spec =
     tie.close
-    (tie.spec sub-if1 returns digits-in-requires returns-2 returns-3)
+    (tie.spec (λ c. search needs) returns (λ c κs. search needs) returns-2 returns-3)

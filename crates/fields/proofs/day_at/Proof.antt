@@ -27,9 +27,6 @@ date-at-requires c κs = c .before .pre .0
 day-of-requires : tie.Need-day-of-requires
 day-of-requires c κs = c .before .before .pre .1
 
-enum-known-day : tie.Need-enum-known-day
-enum-known-day c = search needs
-
 enum-told : tie.Need-enum-told
 enum-told c = search needs
 
@@ -46,4 +43,4 @@ returns-2 c =
 pub day-at-spec : {M : Type 1} → statement M
 day-at-spec =
     tie.close
-    (tie.spec date-at-requires day-of-requires enum-known-day enum-told returns returns-2)
+    (tie.spec date-at-requires day-of-requires (λ c. search needs) enum-told returns returns-2)

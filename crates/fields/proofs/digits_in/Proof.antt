@@ -89,9 +89,6 @@ loop-holds c =
 loop2-holds : tie.Need-loop2-holds Inv-loop2 μ-loop2 Inv-loop μ-loop
 loop2-holds c = (c .loop .inv, omega arith, omega arith)
 
-loop-less : tie.Need-loop-less Inv-loop2 μ-loop2 Inv-loop μ-loop
-loop-less c = omega arith
-
 loop-again : tie.Need-loop-again Inv-loop2 μ-loop2 Inv-loop μ-loop
 loop-again c = c .before .loop2 .inv .0
 
@@ -100,12 +97,6 @@ returns c =
     let a = c .before .before .before .before .before .args in
     let l = c .before .before .loop2 in
     done (a .s .now) (a .at) (a .end) (omega arith) (omega arith) (l .n) (l .i) (c .if1 .taken) (l .inv .0)
-
-shared-slice-read-b : tie.Need-shared-slice-read-b Inv-loop2 μ-loop2 Inv-loop μ-loop
-shared-slice-read-b c = omega arith
-
-is-within-requires : tie.Need-is-within-requires Inv-loop2 μ-loop2 Inv-loop μ-loop
-is-within-requires c κs = tt
 
 returns-2 : tie.Need-returns-2 Inv-loop2 μ-loop2 Inv-loop μ-loop
 returns-2 c =
@@ -132,26 +123,8 @@ small-yet c =
     let l = c .before .before .before .before .before .loop2 in
     limit (a .s .now) (a .at) (a .end) (omega arith) (omega arith) (l .n) (l .i) 18 (omega arith) (l .inv .0)
 
-mul-n : tie.Need-mul-n Inv-loop2 μ-loop2 Inv-loop μ-loop
-mul-n c = omega (arith, small-yet c)
-
-cast-n : tie.Need-cast-n Inv-loop2 μ-loop2 Inv-loop μ-loop
-cast-n c = omega (arith, digit-bounds c)
-
 sub-n : tie.Need-sub-n Inv-loop2 μ-loop2 Inv-loop μ-loop
 sub-n c = digit-bounds c .0
-
-add-n : tie.Need-add-n Inv-loop2 μ-loop2 Inv-loop μ-loop
-add-n c = omega (arith, small-yet c, digit-bounds c)
-
-add-i : tie.Need-add-i Inv-loop2 μ-loop2 Inv-loop μ-loop
-add-i c = omega arith
-
-add-k : tie.Need-add-k Inv-loop2 μ-loop2 Inv-loop μ-loop
-add-k c = omega arith
-
-loop2-less : tie.Need-loop2-less Inv-loop2 μ-loop2 Inv-loop μ-loop
-loop2-less c = omega arith
 
 loop2-again : tie.Need-loop2-again Inv-loop2 μ-loop2 Inv-loop μ-loop
 loop2-again c =
@@ -169,17 +142,17 @@ digits-in-spec =
     μ-loop
     loop-holds
     loop2-holds
-    loop-less
+    (λ c. omega arith)
     loop-again
     returns
-    shared-slice-read-b
-    is-within-requires
+    (λ c. omega arith)
+    (λ c κs. tt)
     returns-2
-    mul-n
-    cast-n
+    (λ c. omega (arith, small-yet c))
+    (λ c. omega (arith, digit-bounds c))
     sub-n
-    add-n
-    add-i
-    add-k
-    loop2-less
+    (λ c. omega (arith, small-yet c, digit-bounds c))
+    (λ c. omega arith)
+    (λ c. omega arith)
+    (λ c. omega arith)
     loop2-again)

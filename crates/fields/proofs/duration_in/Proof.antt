@@ -23,9 +23,6 @@ filled : (has : Bool) (t : Text) → has ≡ false → 0 < length t → duration
 filled has [] n h = absurd (omega arith)
 filled has (b ∷ t) n h = rw n
 
-ranged-in-requires : tie.Need-ranged-in-requires
-ranged-in-requires c κs = search needs
-
 returns : tie.Need-returns
 returns c =
     let a = c .before .before .before .args in
@@ -44,4 +41,4 @@ returns-3 c =
     sym (ap orHighest (filled (a .has) (slice (a .at) (a .end) (a .s .now)) (c .before .if1 .left) (omega arith)))
 
 pub duration-in-spec : {M : Type 1} → statement M
-duration-in-spec = tie.close (tie.spec ranged-in-requires returns returns-2 returns-3)
+duration-in-spec = tie.close (tie.spec (λ c κs. search needs) returns returns-2 returns-3)

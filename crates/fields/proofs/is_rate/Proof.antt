@@ -5,11 +5,8 @@ use borrow.Author.Needs.{needs}
 use Rattle.fields.proofs.is_rate.Statement.{statement}
 use Rattle.fields.proofs.is_rate.Tie as tie
 
-above-zero-requires : tie.Need-above-zero-requires
-above-zero-requires c κs = search needs
-
 returns : tie.Need-returns
 returns c = rw (c .above-zero .ensures, toZ-ofZ w64 (c .before .args .r) (c .before .fits .r))
 
 pub is-rate-spec : {M : Type 1} → statement M
-is-rate-spec = tie.close (tie.spec above-zero-requires returns)
+is-rate-spec = tie.close (tie.spec (λ c κs. search needs) returns)

@@ -12,17 +12,11 @@ use Rattle.fields.proofs.Letters.{no-letter, its-letter, other-letter}
 use Rattle.fields.proofs.kind_in.Statement.{statement}
 use Rattle.fields.proofs.kind_in.Tie as tie
 
-sub-if1 : tie.Need-sub-if1
-sub-if1 c = search needs
-
 returns : tie.Need-returns
 returns c =
     let a = c .before .args in
     let no = no-letter (a .s .now) (a .at) (a .end) (omega arith) (c .if1 .taken) in
     simp (no 71, no 67, no 73, no 70)
-
-shared-slice-read-b : tie.Need-shared-slice-read-b
-shared-slice-read-b c = search needs
 
 -- A field of one byte, by that byte
 module _ (c : tie.Else1) where
@@ -59,9 +53,9 @@ pub kind-in-spec : {M : Type 1} → statement M
 kind-in-spec =
     tie.close
     (tie.spec
-    sub-if1
+    (λ c. search needs)
     returns
-    shared-slice-read-b
+    (λ c. search needs)
     returns-2
     returns-3
     returns-4

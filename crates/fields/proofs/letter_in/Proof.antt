@@ -5,17 +5,11 @@ use Rattle.fields.proofs.Letters.{no-letter, its-letter, other-letter}
 use Rattle.fields.proofs.letter_in.Statement.{statement}
 use Rattle.fields.proofs.letter_in.Tie as tie
 
-sub-if1 : tie.Need-sub-if1
-sub-if1 c = search needs
-
 returns : tie.Need-returns
 returns c =
     let a = c .before .args in
     let no = no-letter (a .s .now) (a .at) (a .end) (omega arith) (c .if1 .taken) in
     simp (no (a .zero), no (a .one))
-
-shared-slice-read-b : tie.Need-shared-slice-read-b
-shared-slice-read-b c = search needs
 
 returns-2 : tie.Need-returns-2
 returns-2 c =
@@ -35,4 +29,4 @@ returns-4 c =
     simp (other-letter (a .s .now) (a .at) (a .end) (omega arith) one (a .zero) (c .before .if2 .left), other-letter (a .s .now) (a .at) (a .end) (omega arith) one (a .one) (c .if3 .left))
 
 pub letter-in-spec : {M : Type 1} → statement M
-letter-in-spec = tie.close (tie.spec sub-if1 returns shared-slice-read-b returns-2 returns-3 returns-4)
+letter-in-spec = tie.close (tie.spec (λ c. search needs) returns (λ c. search needs) returns-2 returns-3 returns-4)

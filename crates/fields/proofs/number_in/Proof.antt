@@ -63,9 +63,6 @@ as-digits t h e = simp (le-leb (length t) 19 h, e)
 first : (s : Text) (at end : ℕ) → at < end → end ≤ length s → getD (slice at end s) 0 0 ≡ getD s at 0
 first s at end h k = rw (slice-cons at end s 0 h k)
 
-sub-size : tie.Need-sub-size
-sub-size c = search needs
-
 returns : tie.Need-returns
 returns c =
     let a = c .before .before .args in
@@ -78,18 +75,12 @@ returns-2 c =
     let t = slice (a .at) (a .end) (a .s .now) in
     sym (ap orHighest (too-long t (omega (arith, length-slice (a .at) (a .end) (a .s .now) (omega arith)))))
 
-shared-slice-read-if4 : tie.Need-shared-slice-read-if4
-shared-slice-read-if4 c = search needs
-
 returns-3 : tie.Need-returns-3
 returns-3 c =
     let a = c .before .before .before .before .before .before .args in
     let t = slice (a .at) (a .end) (a .s .now) in
     let size = length-slice (a .at) (a .end) (a .s .now) (omega arith) in
     sym (ap orHighest (no-form t (zero-first t (omega arith) (first (a .s .now) (a .at) (a .end) (omega arith) (omega arith) ∙ c .if4 .taken))))
-
-digits-in-requires : tie.Need-digits-in-requires
-digits-in-requires c κs = search needs
 
 -- What is left is read as digits are
 module _ (c : tie.After-digits-in) where
@@ -114,10 +105,10 @@ pub number-in-spec : {M : Type 1} → statement M
 number-in-spec =
     tie.close
     (tie.spec
-    sub-size
+    (λ c. search needs)
     returns
     returns-2
-    shared-slice-read-if4
+    (λ c. search needs)
     returns-3
-    digits-in-requires
+    (λ c κs. search needs)
     returns-4)

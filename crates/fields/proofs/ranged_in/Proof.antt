@@ -28,9 +28,6 @@ out-of-range lowest most n (some m) e h = rw (rw e at h)
 abbrev read : tie.After-number-in → Option ℕ
 read c = let a = c .before .before .args in numberIn (slice (a .at) (a .end) (a .s .now))
 
-number-in-requires : tie.Need-number-in-requires
-number-in-requires c κs = search needs
-
 returns : tie.Need-returns
 returns c = in-range _ _ _ (read (c .before)) (c .before .number-in .ensures) (c .if1 .taken)
 
@@ -38,4 +35,4 @@ returns-2 : tie.Need-returns-2
 returns-2 c = out-of-range _ _ _ (read (c .before)) (c .before .number-in .ensures) (c .if1 .left)
 
 pub ranged-in-spec : {M : Type 1} → statement M
-ranged-in-spec = tie.close (tie.spec number-in-requires returns returns-2)
+ranged-in-spec = tie.close (tie.spec (λ c κs. search needs) returns returns-2)

@@ -96,15 +96,6 @@ returns c =
     let a = c .before .before .args in
     rw (part-empty (a .s .now) (a .at) (a .end) (sym (c .if1 .taken)))
 
-shared-slice-read-if2 : tie.Need-shared-slice-read-if2
-shared-slice-read-if2 c = search needs
-
-add-ranged-in : tie.Need-add-ranged-in
-add-ranged-in c = search needs
-
-ranged-in-requires : tie.Need-ranged-in-requires
-ranged-in-requires c κs = search needs
-
 -- What is read behind a `-`, and without one
 with-hyphen : (c : tie.After-ranged-in)
     → let a = c .before .before .before .before .before .args in Sized minus (slice (a .at) (a .end) (a .s .now)) (c .ranged-in .result)
@@ -134,9 +125,6 @@ returns-2 c = no-rate (with-hyphen (c .before)) (c .if3 .taken)
 negative-requires : tie.Need-negative-requires
 negative-requires c κs = small (with-hyphen (c .before)) (c .if3 .left)
 
-ranged-in-requires-2 : tie.Need-ranged-in-requires-2
-ranged-in-requires-2 c κs = search needs
-
 returns-3 : tie.Need-returns-3
 returns-3 c = no-rate (no-hyphen (c .before)) (c .if4 .taken)
 
@@ -154,12 +142,12 @@ rate-in-spec =
     tie.close
     (tie.spec
     returns
-    shared-slice-read-if2
-    add-ranged-in
-    ranged-in-requires
+    (λ c. search needs)
+    (λ c. search needs)
+    (λ c κs. search needs)
     returns-2
     negative-requires
-    ranged-in-requires-2
+    (λ c κs. search needs)
     returns-3
     positive-requires
     returns-4

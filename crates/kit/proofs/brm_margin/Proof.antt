@@ -32,9 +32,6 @@ returns-2 c =
     let a = c .before .before .before .before .args in
     answered (a .sheet .now) (a .report .now) (refused 2 0) (long-sheet (a .sheet .now) (a .report .now) (c .before .if1 .left) (c .if2 .taken))
 
-read-sheet-requires : tie.Need-read-sheet-requires
-read-sheet-requires c κs = search needs
-
 -- The sheet and the buffer, from where the sheet was read
 abbrev sheet : tie.After-read-sheet → Text
 sheet c = c .before .before .before .before .before .args .sheet .now
@@ -99,9 +96,6 @@ write-requires c κs =
     let fits = report-fits (a .paper) (a .admitted) in
     (writable f, omega (arith, ap length (text-is f), fits, r .before .before .if1 .left))
 
-same-length : tie.Need-same-length
-same-length c = search needs
-
 returns-4 : tie.Need-returns-4
 returns-4 c =
     let w = c .before .before in
@@ -121,11 +115,11 @@ brm-margin-spec =
     (tie.spec
     returns
     returns-2
-    read-sheet-requires
+    (λ c κs. search needs)
     mul-result
     add-result
     returns-3
     figures-of-requires
     write-requires
-    same-length
+    (λ c. search needs)
     returns-4)

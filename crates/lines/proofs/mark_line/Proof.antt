@@ -42,9 +42,6 @@ rest₂ c = others-left (rest₁ (c .before .before .before .before)) (c .put-fi
 rest₃ : (c : tie.After-put-currency) → Rest (begin₃ c) 3 (c .put-currency .result) (c .put-currency .last .0)
 rest₃ c = others-left (rest₂ (c .before .before .before .before)) (c .put-currency .ensures)
 
-put-two-requires : tie.Need-put-two-requires
-put-two-requires c κs = search needs
-
 put-field-requires : tie.Need-put-field-requires
 put-field-requires c κs = field-fits (rest₁ (c .before .before .before))
 
@@ -56,9 +53,6 @@ put-signed-field-requires c κs =
     let s = begin₃ (c .before .before .before) in
     rw (toZ-ofZ w64 (s .args .mark) (s .fits .mark)) (s .pre .0 .0, rest₃ (c .before .before .before) .fits)
 
-same-length : tie.Need-same-length
-same-length c = search needs
-
 returns : tie.Need-returns
 returns c =
     let last = c .before .before in
@@ -69,9 +63,9 @@ pub mark-line-spec : {M : Type 1} → statement M
 mark-line-spec =
     tie.close
     (tie.spec
-    put-two-requires
+    (λ c κs. search needs)
     put-field-requires
     put-currency-requires
     put-signed-field-requires
-    same-length
+    (λ c. search needs)
     returns)

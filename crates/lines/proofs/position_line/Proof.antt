@@ -52,9 +52,6 @@ rest₄ c = others-left (rest₃ (c .before .before .before .before)) (c .put-fi
 rest₅ : (c : tie.After-put-field3) → Rest (begin₅ c) 5 (c .put-field3 .result) (c .put-field3 .last .0)
 rest₅ c = others-left (rest₄ (c .before .before .before .before)) (c .put-field3 .ensures)
 
-put-two-requires : tie.Need-put-two-requires
-put-two-requires c κs = search needs
-
 put-currency-requires : tie.Need-put-currency-requires
 put-currency-requires c κs = (begin₁ (c .before .before .before) .pre .0, field-fits (rest₁ (c .before .before .before)))
 
@@ -70,9 +67,6 @@ put-field-requires-3 c κs = field-fits (rest₄ (c .before .before .before))
 put-field-requires-4 : tie.Need-put-field-requires-4
 put-field-requires-4 c κs = rest₅ (c .before .before .before) .fits
 
-same-length : tie.Need-same-length
-same-length c = search needs
-
 returns : tie.Need-returns
 returns c =
     let last = c .before .before in
@@ -82,11 +76,11 @@ pub position-line-spec : {M : Type 1} → statement M
 position-line-spec =
     tie.close
     (tie.spec
-    put-two-requires
+    (λ c κs. search needs)
     put-currency-requires
     put-field-requires
     put-field-requires-2
     put-field-requires-3
     put-field-requires-4
-    same-length
+    (λ c. search needs)
     returns)

@@ -18,9 +18,6 @@ put-byte-requires c κs =
     let s = number .before .before .before in
     omega (arith, room (parts (digits (s .args .n)) (s .args .end ∷ [])) _ _ (s .pre) (number .put-number .ensures))
 
-same-length : tie.Need-same-length
-same-length c = search needs
-
 returns : tie.Need-returns
 returns c =
     let byte = c .before .before in
@@ -29,4 +26,4 @@ returns c =
     joined (parts (digits (s .args .n)) (s .args .end ∷ [])) _ _ (s .pre) (number .put-number .ensures) (byte .put-byte .ensures)
 
 pub put-field-spec : {M : Type 1} → statement M
-put-field-spec = tie.close (tie.spec put-number-requires put-byte-requires same-length returns)
+put-field-spec = tie.close (tie.spec put-number-requires put-byte-requires (λ c. search needs) returns)

@@ -7,19 +7,10 @@ use Rattle.lines.proofs.Digits.{digits-one, digits-two}
 use Rattle.lines.proofs.put_first.Statement.{statement}
 use Rattle.lines.proofs.put_first.Tie as tie
 
-add-put-byte : tie.Need-add-put-byte
-add-put-byte c = search needs
-
-cast-put-byte : tie.Need-cast-put-byte
-cast-put-byte c = search needs
-
 put-byte-requires : tie.Need-put-byte-requires
 put-byte-requires c κs =
     let s = c .before .before .before in
     omega (arith, ap length (digits-one (s .args .n) (c .before .if1 .taken)))
-
-same-length : tie.Need-same-length
-same-length c = search needs
 
 returns : tie.Need-returns
 returns c =
@@ -32,9 +23,6 @@ put-pair-requires c κs =
     let s = c .before .before .before in
     omega (arith, ap length (digits-two (s .args .n) (c .before .if1 .left) (s .pre .0)))
 
-same-length-2 : tie.Need-same-length-2
-same-length-2 c = search needs
-
 returns-2 : tie.Need-returns-2
 returns-2 c =
     let both = c .before .before in
@@ -45,11 +33,11 @@ pub put-first-spec : {M : Type 1} → statement M
 put-first-spec =
     tie.close
     (tie.spec
-    add-put-byte
-    cast-put-byte
+    (λ c. search needs)
+    (λ c. search needs)
     put-byte-requires
-    same-length
+    (λ c. search needs)
     returns
     put-pair-requires
-    same-length-2
+    (λ c. search needs)
     returns-2)

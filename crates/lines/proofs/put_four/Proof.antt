@@ -6,15 +6,6 @@ use Rattle.lines.proofs.Written.{parts, joined}
 use Rattle.lines.proofs.put_four.Statement.{statement}
 use Rattle.lines.proofs.put_four.Tie as tie
 
-put-pair-requires : tie.Need-put-pair-requires
-put-pair-requires c κs = search needs
-
-put-pair-requires-2 : tie.Need-put-pair-requires-2
-put-pair-requires-2 c κs = search needs
-
-same-length : tie.Need-same-length
-same-length c = search needs
-
 returns : tie.Need-returns
 returns c =
     let ones = c .before .before in
@@ -25,4 +16,4 @@ returns c =
     (ones .put-pair2 .ensures)
 
 pub put-four-spec : {M : Type 1} → statement M
-put-four-spec = tie.close (tie.spec put-pair-requires put-pair-requires-2 same-length returns)
+put-four-spec = tie.close (tie.spec (λ c κs. search needs) (λ c κs. search needs) (λ c. search needs) returns)

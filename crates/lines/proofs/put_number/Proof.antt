@@ -6,15 +6,6 @@ use Rattle.lines.proofs.Written.{front, room, joined}
 use Rattle.lines.proofs.put_number.Statement.{statement}
 use Rattle.lines.proofs.put_number.Tie as tie
 
-put-middle-requires : tie.Need-put-middle-requires
-put-middle-requires c κs = search needs
-
-same-length : tie.Need-same-length
-same-length c = search needs
-
-returns : tie.Need-returns
-returns c = search needs
-
 put-long-requires : tie.Need-put-long-requires
 put-long-requires c κs =
     let s = c .before .before .before in
@@ -25,9 +16,6 @@ put-eight-requires c κs =
     let first = c .before .before .before in
     let s = first .before .before .before .before in
     (omega arith, room (digits-hundred-millions (s .args .n) (first .before .before .if1 .left)) _ _ (s .pre) (first .put-long .ensures))
-
-same-length-2 : tie.Need-same-length-2
-same-length-2 c = search needs
 
 returns-2 : tie.Need-returns-2
 returns-2 c =
@@ -40,10 +28,10 @@ pub put-number-spec : {M : Type 1} → statement M
 put-number-spec =
     tie.close
     (tie.spec
-    put-middle-requires
-    same-length
-    returns
+    (λ c κs. search needs)
+    (λ c. search needs)
+    (λ c. search needs)
     put-long-requires
     put-eight-requires
-    same-length-2
+    (λ c. search needs)
     returns-2)

@@ -22,9 +22,6 @@ spelt-below c =
     (test-on (s .args .z) (s .fits .z) (c .before .if1 .taken))
     (λ n. parts (hyphen ∷ []) _))
 
-below-zero-requires : tie.Need-below-zero-requires
-below-zero-requires c κs = search needs
-
 put-byte-requires : tie.Need-put-byte-requires
 put-byte-requires c κs =
     let s = c .before .before .before .before in
@@ -35,9 +32,6 @@ put-field-requires c κs =
     let sign = c .before .before .before in
     let size = sign .before .before in
     room (spelt-below size) _ _ (size .before .before .before .pre .1) (sign .put-byte .ensures)
-
-same-length : tie.Need-same-length
-same-length c = search needs
 
 returns : tie.Need-returns
 returns c =
@@ -54,14 +48,8 @@ spelt-above c =
     (not-below (λ z. signedDigits z ≡ digits (aboveZero z)) (s .args .z) (test-on (s .args .z) (s .fits .z) (c .before .before .if1 .left))
     (λ n. refl))
 
-above-zero-requires : tie.Need-above-zero-requires
-above-zero-requires c κs = search needs
-
 put-field-requires-2 : tie.Need-put-field-requires-2
 put-field-requires-2 c κs = rw (spelt-above c) at (c .before .before .before .before .pre .1)
-
-same-length-2 : tie.Need-same-length-2
-same-length-2 c = search needs
 
 returns-2 : tie.Need-returns-2
 returns-2 c = rw (spelt-above (c .before .before .before)) (c .before .before .put-field2 .ensures)
@@ -70,12 +58,12 @@ pub put-signed-field-spec : {M : Type 1} → statement M
 put-signed-field-spec =
     tie.close
     (tie.spec
-    below-zero-requires
+    (λ c κs. search needs)
     put-byte-requires
     put-field-requires
-    same-length
+    (λ c. search needs)
     returns
-    above-zero-requires
+    (λ c κs. search needs)
     put-field-requires-2
-    same-length-2
+    (λ c. search needs)
     returns-2)

@@ -5,15 +5,6 @@ use Rattle.lines.proofs.Written.{parts, joined}
 use Rattle.lines.proofs.put_two.Statement.{statement}
 use Rattle.lines.proofs.put_two.Tie as tie
 
-put-byte-requires : tie.Need-put-byte-requires
-put-byte-requires c κs = search needs
-
-put-byte-requires-2 : tie.Need-put-byte-requires-2
-put-byte-requires-2 c κs = search needs
-
-same-length : tie.Need-same-length
-same-length c = search needs
-
 returns : tie.Need-returns
 returns c =
     let second = c .before .before in
@@ -23,4 +14,4 @@ returns c =
     (second .put-byte2 .ensures)
 
 pub put-two-spec : {M : Type 1} → statement M
-put-two-spec = tie.close (tie.spec put-byte-requires put-byte-requires-2 same-length returns)
+put-two-spec = tie.close (tie.spec (λ c κs. search needs) (λ c κs. search needs) (λ c. search needs) returns)

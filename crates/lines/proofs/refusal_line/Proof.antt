@@ -33,17 +33,11 @@ rest₁ c =
 rest₂ : (c : tie.After-put-field) → Rest (begin₂ c) 2 (c .put-field .result) (c .put-field .last .0)
 rest₂ c = others-left (rest₁ (c .before .before .before .before)) (c .put-field .ensures)
 
-put-two-requires : tie.Need-put-two-requires
-put-two-requires c κs = search needs
-
 put-field-requires : tie.Need-put-field-requires
 put-field-requires c κs = field-fits (rest₁ (c .before .before .before))
 
 put-field-requires-2 : tie.Need-put-field-requires-2
 put-field-requires-2 c κs = rest₂ (c .before .before .before) .fits
-
-same-length : tie.Need-same-length
-same-length c = search needs
 
 returns : tie.Need-returns
 returns c =
@@ -54,8 +48,8 @@ pub refusal-line-spec : {M : Type 1} → statement M
 refusal-line-spec =
     tie.close
     (tie.spec
-    put-two-requires
+    (λ c κs. search needs)
     put-field-requires
     put-field-requires-2
-    same-length
+    (λ c. search needs)
     returns)

@@ -50,9 +50,6 @@ rest₃ c =
 rest₄ : (c : tie.After-put-field) → Rest (begin₄ c) 4 (c .put-field .result) (c .put-field .last .0)
 rest₄ c = others-left (rest₃ (c .before .before .before .before)) (c .put-field .ensures)
 
-put-two-requires : tie.Need-put-two-requires
-put-two-requires c κs = search needs
-
 put-currency-requires : tie.Need-put-currency-requires
 put-currency-requires c κs = (begin₁ (c .before .before .before) .pre .0 .1, field-fits (rest₁ (c .before .before .before)))
 
@@ -67,9 +64,6 @@ put-field-requires c κs = field-fits (rest₃ (c .before .before .before))
 put-field-requires-2 : tie.Need-put-field-requires-2
 put-field-requires-2 c κs = rest₄ (c .before .before .before) .fits
 
-same-length : tie.Need-same-length
-same-length c = search needs
-
 returns : tie.Need-returns
 returns c =
     let last = c .before .before in
@@ -79,10 +73,10 @@ pub total-line-spec : {M : Type 1} → statement M
 total-line-spec =
     tie.close
     (tie.spec
-    put-two-requires
+    (λ c κs. search needs)
     put-currency-requires
     put-signed-field-requires
     put-field-requires
     put-field-requires-2
-    same-length
+    (λ c. search needs)
     returns)

@@ -28,45 +28,18 @@ small c = omega (arith, ap natAbs (net-is c), net-small (c .before .args .worth)
 rounded-requires : tie.Need-rounded-requires
 rounded-requires c κs = omega (arith, ap natAbs (toZ-ofZ w64 (c .args .worth) (c .fits .worth)))
 
-above-zero-requires : tie.Need-above-zero-requires
-above-zero-requires c κs = search needs
-
-mul-long : tie.Need-mul-long
-mul-long c = search needs
-
-element-copy-out-long : tie.Need-element-copy-out-long
-element-copy-out-long c = search needs
-
 add-long : tie.Need-add-long
 add-long c =
     let r = c .before .before in
     record { fits = omega (arith, above-within (toZ w64 (ofZ w64 (r .rounded .result))), small r) }
 
-mul-long-2 : tie.Need-mul-long-2
-mul-long-2 c = search needs
-
-element-write-long : tie.Need-element-write-long
-element-write-long c = search needs
-
 below-zero-requires : tie.Need-below-zero-requires
 below-zero-requires c κs = small (c .before .before)
-
-mul-short : tie.Need-mul-short
-mul-short c = search needs
-
-element-copy-out-short : tie.Need-element-copy-out-short
-element-copy-out-short c = search needs
 
 add-short : tie.Need-add-short
 add-short c =
     let r = c .before .before .before .before in
     record { fits = omega (arith, below-within (toZ w64 (ofZ w64 (r .rounded .result))), small r) }
-
-mul-short-2 : tie.Need-mul-short-2
-mul-short-2 c = search needs
-
-element-write-short : tie.Need-element-write-short
-element-write-short c = search needs
 
 returns : tie.Need-returns
 returns c = let net = net-is (c .before .before .before .before) in (cc net, cc net)
@@ -76,16 +49,16 @@ add-net-spec =
     tie.close
     (tie.spec
     rounded-requires
-    above-zero-requires
-    mul-long
-    element-copy-out-long
+    (λ c κs. search needs)
+    (λ c. search needs)
+    (λ c. search needs)
     add-long
-    mul-long-2
-    element-write-long
+    (λ c. search needs)
+    (λ c. search needs)
     below-zero-requires
-    mul-short
-    element-copy-out-short
+    (λ c. search needs)
+    (λ c. search needs)
     add-short
-    mul-short-2
-    element-write-short
+    (λ c. search needs)
+    (λ c. search needs)
     returns)

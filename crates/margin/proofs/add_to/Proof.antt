@@ -9,24 +9,6 @@ use Rattle.whole.proofs.Signs.{read-back, carried}
 use Rattle.margin.proofs.add_to.Statement.{statement}
 use Rattle.margin.proofs.add_to.Tie as tie
 
-mul-sum : tie.Need-mul-sum
-mul-sum c = search needs
-
-slice-copy-out-sum : tie.Need-slice-copy-out-sum
-slice-copy-out-sum c = search needs
-
-sum-requires : tie.Need-sum-requires
-sum-requires c κs = search needs
-
-mul-t5 : tie.Need-mul-t5
-mul-t5 c = search needs
-
-slice-set-from-sums : tie.Need-slice-set-from-sums
-slice-set-from-sums c = search needs
-
-same-length : tie.Need-same-length
-same-length c = search needs
-
 returns : tie.Need-returns
 returns c =
     let s = c .before .before in
@@ -39,10 +21,10 @@ pub add-to-spec : {M : Type 1} → statement M
 add-to-spec =
     tie.close
     (tie.spec
-    mul-sum
-    slice-copy-out-sum
-    sum-requires
-    mul-t5
-    slice-set-from-sums
-    same-length
+    (λ c. search needs)
+    (λ c. search needs)
+    (λ c κs. search needs)
+    (λ c. search needs)
+    (λ c. search needs)
+    (λ c. search needs)
     returns)

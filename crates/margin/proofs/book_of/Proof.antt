@@ -20,47 +20,8 @@ Inv-loop longs shorts rank from long₀ short₀ k₀ long short k =
 abbrev μ-loop : tie.MeasureT-loop
 μ-loop longs shorts rank from long₀ short₀ k₀ long short k = 41 - k
 
-mul-from : tie.Need-mul-from Inv-loop μ-loop
-mul-from c = omega arith
-
 loop-holds : tie.Need-loop-holds Inv-loop μ-loop
 loop-holds c = (omega arith, refl, refl)
-
-add-long : tie.Need-add-long Inv-loop μ-loop
-add-long c = omega arith
-
-mul-long : tie.Need-mul-long Inv-loop μ-loop
-mul-long c = omega arith
-
-element-copy-out-long : tie.Need-element-copy-out-long Inv-loop μ-loop
-element-copy-out-long c = omega arith
-
-mul-long-2 : tie.Need-mul-long-2 Inv-loop μ-loop
-mul-long-2 c = omega arith
-
-array-write-long : tie.Need-array-write-long Inv-loop μ-loop
-array-write-long c = omega arith
-
-add-short : tie.Need-add-short Inv-loop μ-loop
-add-short c = omega arith
-
-mul-short : tie.Need-mul-short Inv-loop μ-loop
-mul-short c = omega arith
-
-element-copy-out-short : tie.Need-element-copy-out-short Inv-loop μ-loop
-element-copy-out-short c = omega arith
-
-mul-short-2 : tie.Need-mul-short-2 Inv-loop μ-loop
-mul-short-2 c = omega arith
-
-array-write-short : tie.Need-array-write-short Inv-loop μ-loop
-array-write-short c = omega arith
-
-add-k : tie.Need-add-k Inv-loop μ-loop
-add-k c = omega arith
-
-loop-less : tie.Need-loop-less Inv-loop μ-loop
-loop-less c = omega arith
 
 loop-again : tie.Need-loop-again Inv-loop μ-loop
 loop-again c =
@@ -83,19 +44,19 @@ book-of-spec =
     (tie.spec
     Inv-loop
     μ-loop
-    mul-from
+    (λ c. omega arith)
     loop-holds
-    add-long
-    mul-long
-    element-copy-out-long
-    mul-long-2
-    array-write-long
-    add-short
-    mul-short
-    element-copy-out-short
-    mul-short-2
-    array-write-short
-    add-k
-    loop-less
+    (λ c. omega arith)
+    (λ c. omega arith)
+    (λ c. omega arith)
+    (λ c. omega arith)
+    (λ c. omega arith)
+    (λ c. omega arith)
+    (λ c. omega arith)
+    (λ c. omega arith)
+    (λ c. omega arith)
+    (λ c. omega arith)
+    (λ c. omega arith)
+    (λ c. omega arith)
     loop-again
     returns)

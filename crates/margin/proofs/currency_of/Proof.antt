@@ -46,9 +46,6 @@ initial-within s =
     (omega (arith, length-take (cs .count) (cs .rows), min-le-left (cs .count) (length (cs .rows)), s .pre .0 .0))
     (each-map (λ r f. margin-on-most (r .deposit) (r .class) b (f .deposit) (remaining-within s)) (s .pre .0 .1))
 
-offset-all-requires : tie.Need-offset-all-requires
-offset-all-requires c κs = search needs
-
 margins-of-requires : tie.Need-margins-of-requires
 margins-of-requires c κs =
     let o = c .before .before in
@@ -79,4 +76,4 @@ returns c =
     }
 
 pub currency-of-spec : {M : Type 1} → statement M
-currency-of-spec = tie.close (tie.spec offset-all-requires margins-of-requires total-requires returns)
+currency-of-spec = tie.close (tie.spec (λ c κs. search needs) margins-of-requires total-requires returns)

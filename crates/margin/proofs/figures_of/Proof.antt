@@ -82,9 +82,6 @@ openings-of-requires c κs =
     let sums = c .before .before .before .before in
     (start sums .pre .few-securities, start sums .pre .securities, worths-small sums)
 
-no-currency-requires : tie.Need-no-currency-requires Inv-loop μ-loop
-no-currency-requires c κs = search needs
-
 loop-holds : tie.Need-loop-holds Inv-loop μ-loop
 loop-holds c = (omega arith, ap (λ (x : Currency). replicate 8 x) (c .no-currency .ensures))
 
@@ -94,9 +91,6 @@ rank-low c = omega (arith, c .loop-test .taken, start (summed (opened (c .before
 
 book-of-requires : tie.Need-book-of-requires Inv-loop μ-loop
 book-of-requires c κs = rank-low (c .before .before)
-
-mul-currency-of : tie.Need-mul-currency-of Inv-loop μ-loop
-mul-currency-of c = omega (arith, rank-low (c .before .before .before))
 
 array-copy-out-currency-of : tie.Need-array-copy-out-currency-of Inv-loop μ-loop
 array-copy-out-currency-of c = rank-low (c .before .before .before)
@@ -161,10 +155,10 @@ figures-of-spec =
     μ-loop
     sums-of-requires
     openings-of-requires
-    no-currency-requires
+    (λ c κs. search needs)
     loop-holds
     book-of-requires
-    mul-currency-of
+    (λ c. omega (arith, rank-low (c .before .before .before)))
     array-copy-out-currency-of
     currency-of-requires
     mul-currencies

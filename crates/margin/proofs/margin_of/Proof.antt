@@ -9,21 +9,6 @@ use Rattle.paper.specs.Bounds.{mostPosition}
 use Rattle.margin.proofs.margin_of.Statement.{statement}
 use Rattle.margin.proofs.margin_of.Tie as tie
 
-mul-greatest : tie.Need-mul-greatest
-mul-greatest c = search needs
-
-element-copy-out-greatest : tie.Need-element-copy-out-greatest
-element-copy-out-greatest c = search needs
-
-mul-greatest-2 : tie.Need-mul-greatest-2
-mul-greatest-2 c = search needs
-
-element-copy-out-greatest-2 : tie.Need-element-copy-out-greatest-2
-element-copy-out-greatest-2 c = search needs
-
-greatest-requires : tie.Need-greatest-requires
-greatest-requires c κs = search needs
-
 share-requires : tie.Need-share-requires
 share-requires c κs =
     let s = c .before .before .before in
@@ -37,10 +22,10 @@ pub margin-of-spec : {M : Type 1} → statement M
 margin-of-spec =
     tie.close
     (tie.spec
-    mul-greatest
-    element-copy-out-greatest
-    mul-greatest-2
-    element-copy-out-greatest-2
-    greatest-requires
+    (λ c. search needs)
+    (λ c. search needs)
+    (λ c. search needs)
+    (λ c. search needs)
+    (λ c κs. search needs)
     share-requires
     returns)

@@ -58,15 +58,6 @@ loop-holds c =
       sym (ap (λ (rs : List ClassRow). sum (map (marginIn (bookOf (s .long .now) (s .short .now))) rs)) (drop-all (s .t1 .rows) (s .t1 .count) (rows-fit c))),
     )
 
-sub-i : tie.Need-sub-i Inv-loop μ-loop
-sub-i c = search needs
-
-mul-margin-of : tie.Need-mul-margin-of Inv-loop μ-loop
-mul-margin-of c = omega (arith, c .before .before .pre .0)
-
-element-copy-out-margin-of : tie.Need-element-copy-out-margin-of Inv-loop μ-loop
-element-copy-out-margin-of c = omega (arith, c .before .before .pre .0)
-
 margin-of-requires : tie.Need-margin-of-requires Inv-loop μ-loop
 margin-of-requires c κs =
     let l = c .before .before in
@@ -84,19 +75,10 @@ margin-more c =
     ∙ ap (λ (rs : List ClassRow). sum (map f rs))
     (sym (rows-before (s .args .t1 .rows) (s .args .t1 .count) (rows-fit s) noClass (l .loop .i) (omega arith) (l .loop .inv .0)))
 
-mul-each : tie.Need-mul-each Inv-loop μ-loop
-mul-each c = omega (arith, c .before .before .before .before .pre .0)
-
-array-write-each : tie.Need-array-write-each Inv-loop μ-loop
-array-write-each c = omega (arith, c .before .before .before .before .pre .0)
-
 add-initial : tie.Need-add-initial Inv-loop μ-loop
 add-initial c =
     let l = c .before .before .before in
     record { fits = omega (arith, margin-more c, margins-within (l .before) (l .loop .i - 1)) }
-
-loop-less : tie.Need-loop-less Inv-loop μ-loop
-loop-less c = omega arith
 
 loop-again : tie.Need-loop-again Inv-loop μ-loop
 loop-again c =
@@ -129,13 +111,13 @@ margins-of-spec =
     Inv-loop
     μ-loop
     loop-holds
-    sub-i
-    mul-margin-of
-    element-copy-out-margin-of
+    (λ c. search needs)
+    (λ c. omega (arith, c .before .before .pre .0))
+    (λ c. omega (arith, c .before .before .pre .0))
     margin-of-requires
-    mul-each
-    array-write-each
+    (λ c. omega (arith, c .before .before .before .before .pre .0))
+    (λ c. omega (arith, c .before .before .before .before .pre .0))
     add-initial
-    loop-less
+    (λ c. omega arith)
     loop-again
     returns)

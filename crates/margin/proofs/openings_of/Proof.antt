@@ -33,15 +33,6 @@ loop-holds c =
     let none : c .args .count - c .args .count ≡ 0 = omega arith in
     (omega arith, rw none, rw none)
 
-sub-i : tie.Need-sub-i Inv-loop μ-loop
-sub-i c = omega arith
-
-mul-security : tie.Need-mul-security Inv-loop μ-loop
-mul-security c = omega arith
-
-array-copy-out-security : tie.Need-array-copy-out-security Inv-loop μ-loop
-array-copy-out-security c = omega arith
-
 -- The security of a turn has its class and currency in their places
 seated : (c : tie.In-loop Inv-loop μ-loop) → Seated (getD (c .before .before .args .t1) (c .before .loop .i - 1) noSecurity)
 seated c =
@@ -65,12 +56,6 @@ cast-place-2 c = record { fits = omega (arith, seated (c .before .before .before
 add-place : tie.Need-add-place Inv-loop μ-loop
 add-place c = let s = seated (c .before .before .before) in record { fits = omega (arith, s .class, s .currency) }
 
-mul-add-net : tie.Need-mul-add-net Inv-loop μ-loop
-mul-add-net c = omega arith
-
-element-copy-out-add-net : tie.Need-element-copy-out-add-net Inv-loop μ-loop
-element-copy-out-add-net c = omega arith
-
 add-net-requires : tie.Need-add-net-requires Inv-loop μ-loop
 add-net-requires c κs =
     let in-loop = c .before .before .before .before .before .before in
@@ -84,9 +69,6 @@ add-net-requires c κs =
       rw (l .loop .inv .1) (long-most (a .t1) (a .worths .now) (s .pre .2) (a .count - i) i (omega arith) _),
       rw (l .loop .inv .2) (short-most (a .t1) (a .worths .now) (s .pre .2) (a .count - i) i (omega arith) _),
     )
-
-loop-less : tie.Need-loop-less Inv-loop μ-loop
-loop-less c = omega arith
 
 loop-again : tie.Need-loop-again Inv-loop μ-loop
 loop-again c =
@@ -116,16 +98,16 @@ openings-of-spec =
     Inv-loop
     μ-loop
     loop-holds
-    sub-i
-    mul-security
-    array-copy-out-security
+    (λ c. omega arith)
+    (λ c. omega arith)
+    (λ c. omega arith)
     cast-place
     mul-place
     cast-place-2
     add-place
-    mul-add-net
-    element-copy-out-add-net
+    (λ c. omega arith)
+    (λ c. omega arith)
     add-net-requires
-    loop-less
+    (λ c. omega arith)
     loop-again
     returns)

@@ -43,15 +43,6 @@ loop-holds s =
       rw none,
     )
 
-sub-i : tie.Need-sub-i Inv-loop μ-loop
-sub-i c = omega arith
-
-mul-trade : tie.Need-mul-trade Inv-loop μ-loop
-mul-trade c = omega arith
-
-array-copy-out-trade : tie.Need-array-copy-out-trade Inv-loop μ-loop
-array-copy-out-trade c = omega arith
-
 -- The trade of a turn
 abbrev trade : tie.In-loop Inv-loop μ-loop → Trade
 trade c = getD (c .before .before .args .t1) (c .before .loop .i - 1) noTrade
@@ -108,12 +99,6 @@ totals-fit l =
     rw (l .loop .inv .3)
     (gathered-length _+ℤ_ (pos 0) 8 _ _ (drop (l .loop .i) _), totals-most (l .before .args .t3) (few l) (each-drop (l .loop .i) (l .before .pre .1)))
 
-mul-marks : tie.Need-mul-marks Inv-loop μ-loop
-mul-marks c = omega arith
-
-array-set-from-marks : tie.Need-array-set-from-marks Inv-loop μ-loop
-array-set-from-marks c = omega arith
-
 slice-aggregate-add-to : tie.Need-slice-aggregate-add-to Inv-loop μ-loop
 slice-aggregate-add-to c = sym (worths-fit (turn (c .before .before .before) .before) .0)
 
@@ -136,9 +121,6 @@ add-to-requires-2 c κs =
     let place = placed (turn v) .currency in
     let (size, small) = totals-fit (turn v .before) in
     (omega arith, rw (mark-is v) (omega (arith, within v .1, small (securityIn (turn v .before .before .args .t3) (trade (turn v)) .currency))))
-
-loop-less : tie.Need-loop-less Inv-loop μ-loop
-loop-less c = omega arith
 
 loop-again : tie.Need-loop-again Inv-loop μ-loop
 loop-again c =
@@ -173,20 +155,20 @@ sums-of-spec =
     Inv-loop
     μ-loop
     loop-holds
-    sub-i
-    mul-trade
-    array-copy-out-trade
+    (λ c. omega arith)
+    (λ c. omega arith)
+    (λ c. omega arith)
     cast-place
     mul-security
     array-copy-out-security
     value-of-requires
-    mul-marks
-    array-set-from-marks
+    (λ c. omega arith)
+    (λ c. omega arith)
     slice-aggregate-add-to
     add-to-requires
     slice-aggregate-add-to-2
     cast-add-to
     add-to-requires-2
-    loop-less
+    (λ c. omega arith)
     loop-again
     returns)

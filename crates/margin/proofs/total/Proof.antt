@@ -21,17 +21,8 @@ hundredfold c = read-back (pos (100 * c .before .args .initial)) (c .positive .e
 mark-is : (c : tie.Start) → toZ w64 (ofZ w64 (c .args .mark)) ≡ c .args .mark
 mark-is c = toZ-ofZ w64 (c .args .mark) (c .fits .mark)
 
-mul-positive : tie.Need-mul-positive
-mul-positive c = search needs
-
-positive-requires : tie.Need-positive-requires
-positive-requires c κs = search needs
-
 difference-requires : tie.Need-difference-requires
 difference-requires c κs = omega (arith, ap natAbs (hundredfold c), ap natAbs (mark-is (c .before)), c .before .pre .0, c .before .pre .1)
-
-above-zero-requires : tie.Need-above-zero-requires
-above-zero-requires c κs = search needs
 
 returns : tie.Need-returns
 returns c =
@@ -45,4 +36,4 @@ returns c =
 pub total-spec : {M : Type 1} → statement M
 total-spec =
     tie.close
-    (tie.spec mul-positive positive-requires difference-requires above-zero-requires returns)
+    (tie.spec (λ c. search needs) (λ c κs. search needs) difference-requires (λ c κs. search needs) returns)

@@ -40,12 +40,6 @@ loop-holds : tie.Need-loop-holds Inv-loop μ-loop
 unfolding offsetAll
 loop-holds c = (omega arith, refl)
 
-mul-row : tie.Need-mul-row Inv-loop μ-loop
-mul-row c = omega arith
-
-array-copy-out-row : tie.Need-array-copy-out-row Inv-loop μ-loop
-array-copy-out-row c = omega arith
-
 offset-row-requires : tie.Need-offset-row-requires Inv-loop μ-loop
 offset-row-requires c κs =
     let l = c .before .before .before .before in
@@ -55,12 +49,6 @@ offset-row-requires c κs =
       row-facts s i (omega arith),
       subst⁻¹ BookFacts (l .loop .inv .1) (remaining-most (map rowOf (take i (s .args .t1))) book (s .pre .2)),
     )
-
-add-i : tie.Need-add-i Inv-loop μ-loop
-add-i c = omega arith
-
-loop-less : tie.Need-loop-less Inv-loop μ-loop
-loop-less c = omega arith
 
 loop-again : tie.Need-loop-again Inv-loop μ-loop
 loop-again c =
@@ -89,10 +77,10 @@ offset-all-spec =
     Inv-loop
     μ-loop
     loop-holds
-    mul-row
-    array-copy-out-row
+    (λ c. omega arith)
+    (λ c. omega arith)
     offset-row-requires
-    add-i
-    loop-less
+    (λ c. omega arith)
+    (λ c. omega arith)
     loop-again
     returns)

@@ -11,9 +11,6 @@ use Rattle.offsetting.proofs.Rows.{offset-most}
 use Rattle.offsetting.proofs.offset_row.Statement.{statement}
 use Rattle.offsetting.proofs.offset_row.Tie as tie
 
-offset-requires : tie.Need-offset-requires
-offset-requires c κs = search needs
-
 -- What the first offset leaves is within the bounds
 first-most : (c : tie.After-offset) → BookFacts (bookOf (c .offset .last .0) (c .offset .last .1 .0))
 first-most c =
@@ -42,4 +39,4 @@ returns-2 c =
     ∙ sym (row-one (rowOf (s .args .row)) (bookOf (s .args .long .now) (s .args .short .now)) (eq-eqb _ _ (c .if1 .left)))
 
 pub offset-row-spec : {M : Type 1} → statement M
-offset-row-spec = tie.close (tie.spec offset-requires offset-requires-2 returns returns-2)
+offset-row-spec = tie.close (tie.spec (λ c κs. search needs) offset-requires-2 returns returns-2)

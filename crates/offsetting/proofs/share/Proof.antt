@@ -8,11 +8,5 @@ use Rattle.offsetting.proofs.share.Tie as tie
 mul-nearest : tie.Need-mul-nearest
 mul-nearest c = record { fits = omega (arith, share-product-most (c .args .factor) (c .args .amount) (c .pre .0) (c .pre .1)) }
 
-nearest-requires : tie.Need-nearest-requires
-nearest-requires c κs = search needs
-
-returns : tie.Need-returns
-returns c = search needs
-
 pub share-spec : {M : Type 1} → statement M
-share-spec = tie.close (tie.spec mul-nearest nearest-requires returns)
+share-spec = tie.close (tie.spec mul-nearest (λ c κs. search needs) (λ c. search needs))

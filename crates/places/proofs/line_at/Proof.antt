@@ -144,26 +144,8 @@ loop-holds c =
 loop2-holds : tie.Need-loop2-holds Inv-loop2 μ-loop2 Inv-loop μ-loop
 loop2-holds c = (c .loop .inv, omega arith, omega arith)
 
-loop-less : tie.Need-loop-less Inv-loop2 μ-loop2 Inv-loop μ-loop
-loop-less c = omega arith
-
 loop-again : tie.Need-loop-again Inv-loop2 μ-loop2 Inv-loop μ-loop
 loop-again c = c .before .loop2 .inv .0
-
-shared-slice-read-b : tie.Need-shared-slice-read-b Inv-loop2 μ-loop2 Inv-loop μ-loop
-shared-slice-read-b c = omega arith
-
-mul-ends : tie.Need-mul-ends Inv-loop2 μ-loop2 Inv-loop μ-loop
-mul-ends c = omega arith
-
-array-write-ends : tie.Need-array-write-ends Inv-loop2 μ-loop2 Inv-loop μ-loop
-array-write-ends c = omega arith
-
-add-t16 : tie.Need-add-t16 Inv-loop2 μ-loop2 Inv-loop μ-loop
-add-t16 c = omega arith
-
-add-t18 : tie.Need-add-t18 Inv-loop2 μ-loop2 Inv-loop μ-loop
-add-t18 c = omega arith
 
 returns : tie.Need-returns Inv-loop2 μ-loop2 Inv-loop μ-loop
 returns c =
@@ -172,24 +154,6 @@ returns c =
     let kept = no-room (a .s .now) (a .at) (a .end) (l .ends) (l .count) (l .i) (omega arith) (l .inv .0) in
     finished (a .s .now) (a .at) (a .end) (l .ends) (l .count) (l .i) (omega arith) (l .inv .0) (c .before .if1 .taken) (c .if2 .ends)
     (⊎-elim (λ w. w .1) (λ w. w .1 ∙ kept (w .0 .left)) (c .if2 .came))
-
-mul-ends-2 : tie.Need-mul-ends-2 Inv-loop2 μ-loop2 Inv-loop μ-loop
-mul-ends-2 c = omega arith
-
-array-write-ends-2 : tie.Need-array-write-ends-2 Inv-loop2 μ-loop2 Inv-loop μ-loop
-array-write-ends-2 c = omega arith
-
-add-count : tie.Need-add-count Inv-loop2 μ-loop2 Inv-loop μ-loop
-add-count c = omega arith
-
-add-i : tie.Need-add-i Inv-loop2 μ-loop2 Inv-loop μ-loop
-add-i c = omega arith
-
-add-k : tie.Need-add-k Inv-loop2 μ-loop2 Inv-loop μ-loop
-add-k c = omega arith
-
-loop2-less : tie.Need-loop2-less Inv-loop2 μ-loop2 Inv-loop μ-loop
-loop2-less c = omega arith
 
 loop2-again : tie.Need-loop2-again Inv-loop2 μ-loop2 Inv-loop μ-loop
 loop2-again c =
@@ -217,18 +181,18 @@ line-at-spec =
     μ-loop
     loop-holds
     loop2-holds
-    loop-less
+    (λ c. omega arith)
     loop-again
-    shared-slice-read-b
-    mul-ends
-    array-write-ends
-    add-t16
-    add-t18
+    (λ c. omega arith)
+    (λ c. omega arith)
+    (λ c. omega arith)
+    (λ c. omega arith)
+    (λ c. omega arith)
     returns
-    mul-ends-2
-    array-write-ends-2
-    add-count
-    add-i
-    add-k
-    loop2-less
+    (λ c. omega arith)
+    (λ c. omega arith)
+    (λ c. omega arith)
+    (λ c. omega arith)
+    (λ c. omega arith)
+    (λ c. omega arith)
     loop2-again)

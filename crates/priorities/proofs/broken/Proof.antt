@@ -8,12 +8,6 @@ use Rattle.priorities.proofs.broken.Tie as tie
 returns : tie.Need-returns
 returns c = rw (le-ltb _ 200 (c .if1 .taken), brokenOf)
 
-shared-slice-read-if2 : tie.Need-shared-slice-read-if2
-shared-slice-read-if2 c = search needs
-
-shared-slice-read-if2-2 : tie.Need-shared-slice-read-if2-2
-shared-slice-read-if2-2 c = search needs
-
 returns-2 : tie.Need-returns-2
 returns-2 c = rw (lt-ltb _ 200 (c .before .before .before .if1 .left), c .if2 .taken, brokenOf)
 
@@ -22,4 +16,4 @@ returns-3 c = rw (lt-ltb _ 200 (c .before .before .before .if1 .left), c .if2 .l
 
 pub broken-spec : {M : Type 1} → statement M
 broken-spec =
-    tie.close (tie.spec returns shared-slice-read-if2 shared-slice-read-if2-2 returns-2 returns-3)
+    tie.close (tie.spec returns (λ c. search needs) (λ c. search needs) returns-2 returns-3)

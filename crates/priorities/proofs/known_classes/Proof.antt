@@ -89,21 +89,6 @@ low c =
 loop-holds : tie.Need-loop-holds Inv-loop μ-loop
 loop-holds c = (omega arith, refl)
 
-mul-class : tie.Need-mul-class Inv-loop μ-loop
-mul-class c = omega arith
-
-element-copy-out-class : tie.Need-element-copy-out-class Inv-loop μ-loop
-element-copy-out-class c = omega arith
-
-array-write-known : tie.Need-array-write-known Inv-loop μ-loop
-array-write-known c = omega (arith, low c)
-
-add-i : tie.Need-add-i Inv-loop μ-loop
-add-i c = omega arith
-
-loop-less : tie.Need-loop-less Inv-loop μ-loop
-loop-less c = omega arith
-
 loop-again : tie.Need-loop-again Inv-loop μ-loop
 loop-again c =
     let l = c .before .before in
@@ -125,10 +110,10 @@ known-classes-spec =
     Inv-loop
     μ-loop
     loop-holds
-    mul-class
-    element-copy-out-class
-    array-write-known
-    add-i
-    loop-less
+    (λ c. omega arith)
+    (λ c. omega arith)
+    (λ c. omega (arith, low c))
+    (λ c. omega arith)
+    (λ c. omega arith)
     loop-again
     returns)

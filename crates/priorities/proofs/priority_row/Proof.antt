@@ -37,18 +37,6 @@ number-at-requires-2 c κs = its-line (c .before .before .before .before) .stand
 number-at-requires-3 : tie.Need-number-at-requires-3
 number-at-requires-3 c κs = its-line (c .before .before .before .before .before .before) .stands 2 (omega arith)
 
-is-read-requires : tie.Need-is-read-requires
-is-read-requires c κs = search needs
-
-is-read-requires-2 : tie.Need-is-read-requires-2
-is-read-requires-2 c κs = search needs
-
-is-read-requires-3 : tie.Need-is-read-requires-3
-is-read-requires-3 c κs = search needs
-
-taken-requires : tie.Need-taken-requires
-taken-requires c κs = search needs
-
 -- Back from where all are read, field by field
 returns-2 : tie.Need-returns-2
 returns-2 c =
@@ -70,8 +58,8 @@ priority-row-spec =
     number-at-requires
     number-at-requires-2
     number-at-requires-3
-    is-read-requires
-    is-read-requires-2
-    is-read-requires-3
-    taken-requires
+    (λ c κs. search needs)
+    (λ c κs. search needs)
+    (λ c κs. search needs)
+    (λ c κs. search needs)
     returns-2)

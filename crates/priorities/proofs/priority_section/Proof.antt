@@ -28,12 +28,6 @@ Inv-loop s from end known rows₀ count₀ at₀ rows count at = (cs : List Clas
 abbrev μ-loop : tie.MeasureT-loop
 μ-loop s from end known rows₀ count₀ at₀ rows count at = end - at
 
-known-classes-requires : tie.Need-known-classes-requires Inv-loop μ-loop
-known-classes-requires c κs = search needs
-
-no-priorities-requires : tie.Need-no-priorities-requires Inv-loop μ-loop
-no-priorities-requires c κs = search needs
-
 loop-holds : tie.Need-loop-holds Inv-loop μ-loop
 loop-holds c cs e =
     let a = c .before .before .before .before in
@@ -65,17 +59,8 @@ priority-row-requires c κs =
     let e = start (c .before .before) in
     (goes-before (e .args .s .now) (c .before .before .loop .at) (e .args .end) 79 (sym (c .before .goes-on .ensures) ∙ c .if1 .taken), e .pre .1)
 
-enum-known-read : tie.Need-enum-known-read Inv-loop μ-loop
-enum-known-read c = search needs
-
 enum-told : tie.Need-enum-told Inv-loop μ-loop
 enum-told c = search needs
-
-priority-number-requires : tie.Need-priority-number-requires Inv-loop μ-loop
-priority-number-requires c κs = search needs
-
-refused-requires : tie.Need-refused-requires Inv-loop μ-loop
-refused-requires c κs = search needs
 
 returns : tie.Need-returns Inv-loop μ-loop
 returns c =
@@ -126,9 +111,6 @@ broken-requires : tie.Need-broken-requires Inv-loop μ-loop
 broken-requires c κs =
     let r = there c (own c) (its-known c) in rw (sym (r .held-is)) (low (own c) (r .row-is) (r .own))
 
-refused-requires-2 : tie.Need-refused-requires-2 Inv-loop μ-loop
-refused-requires-2 c κs = search needs
-
 returns-2 : tie.Need-returns-2 Inv-loop μ-loop
 returns-2 c =
     let b = c .before .before in
@@ -148,15 +130,6 @@ free c =
       few (own r) (turn-kept (room (own r)) i (on r (own r) (its-known r)) (there r (own r) (its-known r))
           (judged r (own r) (its-known r) (c .before .broken .result) (c .before .broken .ensures)) (c .if2 .left)),
     )
-
-mul-rows : tie.Need-mul-rows Inv-loop μ-loop
-mul-rows c = omega (arith, free c)
-
-array-set-from-rows : tie.Need-array-set-from-rows Inv-loop μ-loop
-array-set-from-rows c = free c
-
-add-count : tie.Need-add-count Inv-loop μ-loop
-add-count c = omega (arith, free c)
 
 loop-less : tie.Need-loop-less Inv-loop μ-loop
 loop-less c =
@@ -182,22 +155,22 @@ priority-section-spec =
     (tie.spec
     Inv-loop
     μ-loop
-    known-classes-requires
-    no-priorities-requires
+    (λ c κs. search needs)
+    (λ c κs. search needs)
     loop-holds
     goes-on-requires
     priority-row-requires
-    enum-known-read
+    (λ c. search needs)
     enum-told
-    priority-number-requires
-    refused-requires
+    (λ c κs. search needs)
+    (λ c κs. search needs)
     returns
     broken-requires
-    refused-requires-2
+    (λ c κs. search needs)
     returns-2
-    mul-rows
-    array-set-from-rows
-    add-count
+    (λ c. omega (arith, free c))
+    (λ c. free c)
+    (λ c. omega (arith, free c))
     loop-less
     loop-again
     returns-3)

@@ -3,11 +3,8 @@ use borrow.Author.Needs.{needs}
 use Rattle.priorities.proofs.refused.Statement.{statement}
 use Rattle.priorities.proofs.refused.Tie as tie
 
-no-priorities-requires : tie.Need-no-priorities-requires
-no-priorities-requires c κs = search needs
-
 returns : tie.Need-returns
 returns c = rw (c .no-priorities .ensures)
 
 pub refused-spec : {M : Type 1} → statement M
-refused-spec = tie.close (tie.spec no-priorities-requires returns)
+refused-spec = tie.close (tie.spec (λ c κs. search needs) returns)

@@ -65,14 +65,8 @@ loop-holds c =
     let a = c .before .before .before .before .before .args in
     (omega arith, none-written (a .from) (a .report .now))
 
-mul-currency : tie.Need-mul-currency Inv-loop μ-loop
-mul-currency c = omega (arith, placed c)
-
 array-copy-out-currency : tie.Need-array-copy-out-currency Inv-loop μ-loop
 array-copy-out-currency c = placed c
-
-mul-money : tie.Need-mul-money Inv-loop μ-loop
-mul-money c = omega (arith, placed (c .before))
 
 array-read-money : tie.Need-array-read-money Inv-loop μ-loop
 array-read-money c = placed (c .before)
@@ -96,9 +90,6 @@ total-line-requires c κs =
 
 add-r : tie.Need-add-r Inv-loop μ-loop
 add-r c = omega (arith, placed (c .before .before .before .before .before .before .before .before .before .before))
-
-loop-less : tie.Need-loop-less Inv-loop μ-loop
-loop-less c = omega arith
 
 loop-again : tie.Need-loop-again Inv-loop μ-loop
 loop-again c =
@@ -135,14 +126,14 @@ currency-lines-spec =
     Inv-loop
     μ-loop
     loop-holds
-    mul-currency
+    (λ c. omega (arith, placed c))
     array-copy-out-currency
-    mul-money
+    (λ c. omega (arith, placed (c .before)))
     array-read-money
     position-lines-requires
     total-line-requires
     add-r
-    loop-less
+    (λ c. omega arith)
     loop-again
     same-length
     returns)

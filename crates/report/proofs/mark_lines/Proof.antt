@@ -83,12 +83,6 @@ loop-holds c =
     let a = c .before .before .before .before .before .before .before .before .before .args in
     (omega arith, none-written 0 (a .report .now))
 
-mul-trade : tie.Need-mul-trade Inv-loop μ-loop
-mul-trade c = omega (arith, begin (c .before) .pre .0 .few-trades)
-
-element-copy-out-trade : tie.Need-element-copy-out-trade Inv-loop μ-loop
-element-copy-out-trade c = omega (arith, begin (c .before) .pre .0 .few-trades)
-
 cast-place : tie.Need-cast-place Inv-loop μ-loop
 cast-place c = record { fits = omega (arith, security-placed (c .before .before .before)) }
 
@@ -130,9 +124,6 @@ put-mark-requires c κs =
 add-i : tie.Need-add-i Inv-loop μ-loop
 add-i c = omega (arith, begin (c .before .before .before .before .before .before .before .before .before .before) .pre .0 .few-trades)
 
-loop-less : tie.Need-loop-less Inv-loop μ-loop
-loop-less c = omega arith
-
 loop-again : tie.Need-loop-again Inv-loop μ-loop
 loop-again c =
     let put = c .before .before in
@@ -169,8 +160,8 @@ mark-lines-spec =
     add-first-2
     add-first-3
     loop-holds
-    mul-trade
-    element-copy-out-trade
+    (λ c. omega (arith, begin (c .before) .pre .0 .few-trades))
+    (λ c. omega (arith, begin (c .before) .pre .0 .few-trades))
     cast-place
     mul-security
     array-copy-out-security
@@ -182,7 +173,7 @@ mark-lines-spec =
     array-copy-out-put-mark
     put-mark-requires
     add-i
-    loop-less
+    (λ c. omega arith)
     loop-again
     same-length
     returns)

@@ -47,12 +47,6 @@ loop-holds c =
     let a = c .before .before .before .before .before .args in
     (omega arith, none-written (a .from) (a .report .now))
 
-mul-row : tie.Need-mul-row Inv-loop μ-loop
-mul-row c = omega (arith, class-most (c .before .before))
-
-array-copy-out-row : tie.Need-array-copy-out-row Inv-loop μ-loop
-array-copy-out-row c = omega (arith, class-most (c .before .before))
-
 mul-position-line : tie.Need-mul-position-line Inv-loop μ-loop
 mul-position-line c = omega (arith, class-most (c .before .before .before .before))
 
@@ -79,9 +73,6 @@ position-line-requires c κs =
 
 add-i : tie.Need-add-i Inv-loop μ-loop
 add-i c = omega (arith, class-most (c .before .before .before .before .before .before .before))
-
-loop-less : tie.Need-loop-less Inv-loop μ-loop
-loop-less c = omega arith
 
 loop-again : tie.Need-loop-again Inv-loop μ-loop
 loop-again c =
@@ -114,8 +105,8 @@ position-lines-spec =
     Inv-loop
     μ-loop
     loop-holds
-    mul-row
-    array-copy-out-row
+    (λ c. omega (arith, class-most (c .before .before)))
+    (λ c. omega (arith, class-most (c .before .before)))
     mul-position-line
     array-read-position-line
     mul-position-line-2
@@ -124,7 +115,7 @@ position-lines-spec =
     array-read-position-line-3
     position-line-requires
     add-i
-    loop-less
+    (λ c. omega arith)
     loop-again
     same-length
     returns)

@@ -23,9 +23,6 @@ mark-line-requires c κs =
     let s = c .before .before .before in
     rw (toZ-ofZ w64 (s .args .mark) (s .fits .mark)) (s .pre .0, rw (is-margined (c .before)) at (s .pre .1))
 
-same-length : tie.Need-same-length
-same-length c = search needs
-
 returns-2 : tie.Need-returns-2
 returns-2 c =
     let line = c .before .before in
@@ -33,4 +30,4 @@ returns-2 c =
     rw (is-margined (line .before .before)) (rw (toZ-ofZ w64 (s .args .mark) (s .fits .mark)) at (line .mark-line .ensures))
 
 pub put-mark-spec : {M : Type 1} → statement M
-put-mark-spec = tie.close (tie.spec returns mark-line-requires same-length returns-2)
+put-mark-spec = tie.close (tie.spec returns mark-line-requires (λ c. search needs) returns-2)

@@ -29,9 +29,6 @@ currency-lines-requires c κs =
     let s = first .before .before .before in
     (s .pre .0, room (both s) 0 (s .args .report .now) (all-fit s) (first .mark-lines .ensures))
 
-same-length : tie.Need-same-length
-same-length c = search needs
-
 returns : tie.Need-returns
 returns c =
     let second = c .before .before in
@@ -40,4 +37,4 @@ returns c =
     joined (both s) 0 (s .args .report .now) (all-fit s) (first .mark-lines .ensures) (second .currency-lines .ensures)
 
 pub write-spec : {M : Type 1} → statement M
-write-spec = tie.close (tie.spec mark-lines-requires currency-lines-requires same-length returns)
+write-spec = tie.close (tie.spec mark-lines-requires currency-lines-requires (λ c. search needs) returns)

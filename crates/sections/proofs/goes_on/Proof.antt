@@ -26,16 +26,10 @@ decided c =
 returns : tie.Need-returns
 returns c = rw (le-ltb (c .before .args .at) (c .before .args .end) (c .if1 .taken))
 
-shared-slice-read-if2 : tie.Need-shared-slice-read-if2
-shared-slice-read-if2 c = omega (arith, ended-most (c .before .before .args .s .now))
-
 returns-2 : tie.Need-returns-2
 returns-2 c =
     let a = c .before .before .before .args in
     sym (decided (c .before .before) ∙ rw (ne-eqb (getD (a .s .now) (a .at) 0) (a .letter) (c .if2 .taken)))
-
-add-b : tie.Need-add-b
-add-b c = search needs
 
 shared-slice-read-b : tie.Need-shared-slice-read-b
 shared-slice-read-b c =
@@ -66,9 +60,9 @@ goes-on-spec =
     tie.close
     (tie.spec
     returns
-    shared-slice-read-if2
+    (λ c. omega (arith, ended-most (c .before .before .args .s .now)))
     returns-2
-    add-b
+    (λ c. search needs)
     shared-slice-read-b
     returns-3
     returns-4)

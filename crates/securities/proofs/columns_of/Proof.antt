@@ -46,39 +46,6 @@ loop-holds c =
     let forty : length (c .before .args .classes .rows) ≡ 40 = sym (length-map (c .before .args .classes .rows) _) ∙ c .before .good .0 .1 .1 .1 .0 .1 .0 .1 in
     (omega arith, forty, refl, refl, refl)
 
-mul-row : tie.Need-mul-row Inv-loop μ-loop
-mul-row c = omega arith
-
-array-copy-out-row : tie.Need-array-copy-out-row Inv-loop μ-loop
-array-copy-out-row c = omega arith
-
-kind-of-requires : tie.Need-kind-of-requires Inv-loop μ-loop
-kind-of-requires c κs = search needs
-
-mul-kinds : tie.Need-mul-kinds Inv-loop μ-loop
-mul-kinds c = omega arith
-
-array-write-kinds : tie.Need-array-write-kinds Inv-loop μ-loop
-array-write-kinds c = search needs
-
-mul-borders : tie.Need-mul-borders Inv-loop μ-loop
-mul-borders c = omega arith
-
-array-write-borders : tie.Need-array-write-borders Inv-loop μ-loop
-array-write-borders c = search needs
-
-mul-numbers : tie.Need-mul-numbers Inv-loop μ-loop
-mul-numbers c = omega arith
-
-array-write-numbers : tie.Need-array-write-numbers Inv-loop μ-loop
-array-write-numbers c = search needs
-
-add-i : tie.Need-add-i Inv-loop μ-loop
-add-i c = omega arith
-
-loop-less : tie.Need-loop-less Inv-loop μ-loop
-loop-less c = omega arith
-
 loop-again : tie.Need-loop-again Inv-loop μ-loop
 loop-again c =
     let l = c .before .before .before in
@@ -107,16 +74,16 @@ columns-of-spec =
     Inv-loop
     μ-loop
     loop-holds
-    mul-row
-    array-copy-out-row
-    kind-of-requires
-    mul-kinds
-    array-write-kinds
-    mul-borders
-    array-write-borders
-    mul-numbers
-    array-write-numbers
-    add-i
-    loop-less
+    (λ c. omega arith)
+    (λ c. omega arith)
+    (λ c κs. search needs)
+    (λ c. omega arith)
+    (λ c. search needs)
+    (λ c. omega arith)
+    (λ c. search needs)
+    (λ c. omega arith)
+    (λ c. search needs)
+    (λ c. omega arith)
+    (λ c. omega arith)
     loop-again
     returns)

@@ -34,29 +34,8 @@ abbrev μ-loop : tie.MeasureT-loop
 loop-holds : tie.Need-loop-holds Inv-loop μ-loop
 loop-holds c = (sym (length-map (c .before .args .currencies .numbers) (λ v. v)) ∙ c .before .good .0 .1 .1 .1 .0 .1 .0 .1, refl)
 
-mul-number : tie.Need-mul-number Inv-loop μ-loop
-mul-number c = omega arith
-
-array-read-number : tie.Need-array-read-number Inv-loop μ-loop
-array-read-number c = omega arith
-
-mul-numbers : tie.Need-mul-numbers Inv-loop μ-loop
-mul-numbers c = omega arith
-
-array-write-numbers : tie.Need-array-write-numbers Inv-loop μ-loop
-array-write-numbers c = omega arith
-
-add-i : tie.Need-add-i Inv-loop μ-loop
-add-i c = omega arith
-
-loop-less : tie.Need-loop-less Inv-loop μ-loop
-loop-less c = omega arith
-
 loop-again : tie.Need-loop-again Inv-loop μ-loop
 loop-again c = let l = c .before .loop in (simp length-set (l .inv .0), l .inv .1 ∙ moved-on (l .numbers) (l .i) (l .moved))
-
-add-t15 : tie.Need-add-t15 Inv-loop μ-loop
-add-t15 c = omega arith
 
 returns : tie.Need-returns Inv-loop μ-loop
 returns c =
@@ -71,12 +50,12 @@ inserted-spec =
     Inv-loop
     μ-loop
     loop-holds
-    mul-number
-    array-read-number
-    mul-numbers
-    array-write-numbers
-    add-i
-    loop-less
+    (λ c. omega arith)
+    (λ c. omega arith)
+    (λ c. omega arith)
+    (λ c. omega arith)
+    (λ c. omega arith)
+    (λ c. omega arith)
     loop-again
-    add-t15
+    (λ c. omega arith)
     returns)

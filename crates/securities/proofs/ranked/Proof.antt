@@ -110,12 +110,6 @@ loop-holds : tie.Need-loop-holds Inv-loop μ-loop
 loop-holds c =
     (omega arith, omega (arith, c .numbers .given), record { low = omega arith; below = λ k h. absurd (omega arith); course = goes refl refl })
 
-mul-number : tie.Need-mul-number Inv-loop μ-loop
-mul-number c = omega arith
-
-shared-slice-read-number : tie.Need-shared-slice-read-number Inv-loop μ-loop
-shared-slice-read-number c = omega arith
-
 -- What a turn makes of the rank
 turned : (c : tie.Joined2 Inv-loop μ-loop)
     → let l = c .before .before .before in
@@ -132,23 +126,8 @@ turned c =
     (turn-off _ _ _ r (λ h. ⊎-elim (λ p. rw (p .2) at (w .0 .left)) (λ p. absurd (omega (arith, p .0 .left))) (c .before .if1 .came))))
     (c .if2 .came)
 
-add-rank : tie.Need-add-rank Inv-loop μ-loop
-add-rank c = omega (arith, turned (c .before) .low)
-
-add-i : tie.Need-add-i Inv-loop μ-loop
-add-i c = omega arith
-
-loop-less : tie.Need-loop-less Inv-loop μ-loop
-loop-less c = omega arith
-
 loop-again : tie.Need-loop-again Inv-loop μ-loop
 loop-again c = (omega arith, c .before .before .before .before .loop .inv .1, turned (c .before))
-
-mul-there : tie.Need-mul-there Inv-loop μ-loop
-mul-there c = omega arith
-
-shared-slice-read-there : tie.Need-shared-slice-read-there Inv-loop μ-loop
-shared-slice-read-there c = omega arith
 
 returns : tie.Need-returns Inv-loop μ-loop
 returns c =
@@ -165,13 +144,13 @@ ranked-spec =
     Inv-loop
     μ-loop
     loop-holds
-    mul-number
-    shared-slice-read-number
-    add-rank
-    add-i
-    loop-less
+    (λ c. omega arith)
+    (λ c. omega arith)
+    (λ c. omega (arith, turned (c .before) .low))
+    (λ c. omega arith)
+    (λ c. omega arith)
     loop-again
-    mul-there
-    shared-slice-read-there
+    (λ c. omega arith)
+    (λ c. omega arith)
     returns
     returns-2)

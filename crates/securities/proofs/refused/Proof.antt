@@ -3,11 +3,8 @@ use borrow.Author.Needs.{needs}
 use Rattle.securities.proofs.refused.Statement.{statement}
 use Rattle.securities.proofs.refused.Tie as tie
 
-no-securities-requires : tie.Need-no-securities-requires
-no-securities-requires c κs = search needs
-
 returns : tie.Need-returns
 returns c = rw (c .no-securities .ensures)
 
 pub refused-spec : {M : Type 1} → statement M
-refused-spec = tie.close (tie.spec no-securities-requires returns)
+refused-spec = tie.close (tie.spec (λ c κs. search needs) returns)

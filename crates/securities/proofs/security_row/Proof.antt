@@ -85,41 +85,11 @@ day-at-requires-2 c κs = let l = at-previous (c .before) in (its-line l .stands
 abbrev at-next : tie.After-day-at2 → tie.Else1
 at-next c = at-previous (c .before .before)
 
-is-read-requires : tie.Need-is-read-requires
-is-read-requires c κs = search needs
-
-is-read-requires-2 : tie.Need-is-read-requires-2
-is-read-requires-2 c κs = search needs
-
-is-read-requires-3 : tie.Need-is-read-requires-3
-is-read-requires-3 c κs = search needs
-
-is-read-requires-4 : tie.Need-is-read-requires-4
-is-read-requires-4 c κs = search needs
-
-is-read-requires-5 : tie.Need-is-read-requires-5
-is-read-requires-5 c κs = search needs
-
-is-read-requires-6 : tie.Need-is-read-requires-6
-is-read-requires-6 c κs = search needs
-
-is-read-requires-7 : tie.Need-is-read-requires-7
-is-read-requires-7 c κs = search needs
-
-follows-requires : tie.Need-follows-requires
-follows-requires c κs = search needs
-
-array-read-t44 : tie.Need-array-read-t44
-array-read-t44 c = search needs
-
 add-t45 : tie.Need-add-t45
 add-t45 c =
     let l = at-next (c .before .before .before .before .before .before .before .before) in
     let f = its-line l .stands 0 (omega arith) in
     omega (arith, f .ordered, f .inside, l .before .before .before .shared-slice-known .given 0)
-
-taken-requires : tie.Need-taken-requires
-taken-requires c κs = search needs
 
 -- Back from where all are read, field by field
 returns-2 : tie.Need-returns-2
@@ -163,15 +133,15 @@ security-row-spec =
     number-at-requires-3
     day-at-requires
     day-at-requires-2
-    is-read-requires
-    is-read-requires-2
-    is-read-requires-3
-    is-read-requires-4
-    is-read-requires-5
-    is-read-requires-6
-    is-read-requires-7
-    follows-requires
-    array-read-t44
+    (λ c κs. search needs)
+    (λ c κs. search needs)
+    (λ c κs. search needs)
+    (λ c κs. search needs)
+    (λ c κs. search needs)
+    (λ c κs. search needs)
+    (λ c κs. search needs)
+    (λ c κs. search needs)
+    (λ c. search needs)
     add-t45
-    taken-requires
+    (λ c κs. search needs)
     returns-2)

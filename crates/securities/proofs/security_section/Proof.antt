@@ -31,12 +31,6 @@ abbrev μ-loop : tie.MeasureT-loop
 μ-loop s years from end classes kinds borders numbers rows₀ codes₀ money₀ currencies₀ last₀ count₀ at₀ rows codes money currencies last count at =
     end - at
 
-columns-of-requires : tie.Need-columns-of-requires Inv-loop μ-loop
-columns-of-requires c κs = search needs
-
-no-securities-requires : tie.Need-no-securities-requires Inv-loop μ-loop
-no-securities-requires c κs = search needs
-
 loop-holds : tie.Need-loop-holds Inv-loop μ-loop
 loop-holds c =
     let e = c .before .before .before .before .before .before .before .before .before in
@@ -66,17 +60,8 @@ security-row-requires c κs =
     let e = start l in
     (goes-before (e .args .s .now) (l .loop .at) (e .args .end) 83 (sym (c .before .goes-on .ensures) ∙ c .if1 .taken), e .pre .1, e .pre .2)
 
-enum-known-read : tie.Need-enum-known-read Inv-loop μ-loop
-enum-known-read c = search needs
-
 enum-told : tie.Need-enum-told Inv-loop μ-loop
 enum-told c = search needs
-
-security-number-requires : tie.Need-security-number-requires Inv-loop μ-loop
-security-number-requires c κs = search needs
-
-refused-requires : tie.Need-refused-requires Inv-loop μ-loop
-refused-requires c κs = search needs
 
 returns : tie.Need-returns Inv-loop μ-loop
 returns c =
@@ -106,9 +91,6 @@ ranked-requires c κs = let l = loop (c .before .before) in turn-most (l .loop .
 class-of-requires : tie.Need-class-of-requires Inv-loop μ-loop
 class-of-requires c κs = start (loop (c .before .before .before .before .before .before)) .pre .3
 
-broken-requires : tie.Need-broken-requires Inv-loop μ-loop
-broken-requires c κs = search needs
-
 -- What judges the row
 abbrev standing : tie.After-class-of Inv-loop μ-loop → tie.After-ranked Inv-loop μ-loop
 standing c = c .before .before .before .before
@@ -130,9 +112,6 @@ judged c =
     c .broken .ensures
     ∙ ap₂ (λ (st : Standing) (n : ℕ). brokenOf (l .count) (st .there) (l .currencies .count) (l .last) (s .number) n) (standing (c .before) .ranked .ensures) (class-is (c .before))
 
-refused-requires-2 : tie.Need-refused-requires-2 Inv-loop μ-loop
-refused-requires-2 c κs = search needs
-
 returns-2 : tie.Need-returns-2 Inv-loop μ-loop
 returns-2 c =
     let b = c .before .before in
@@ -152,31 +131,10 @@ security-of-requires c κs = (turn-small (there (taken c)), rw (class-is (c .bef
 free : (c : tie.Else2 Inv-loop μ-loop) → loop (taken c) .loop .count < 200
 free c = turn-free (there (taken c)) (unbroken c)
 
-mul-rows : tie.Need-mul-rows Inv-loop μ-loop
-mul-rows c = omega (arith, free (c .before))
-
-array-set-from-rows : tie.Need-array-set-from-rows Inv-loop μ-loop
-array-set-from-rows c = free (c .before)
-
-mul-codes : tie.Need-mul-codes Inv-loop μ-loop
-mul-codes c = omega (arith, free (c .before))
-
-array-write-codes : tie.Need-array-write-codes Inv-loop μ-loop
-array-write-codes c = omega (arith, free (c .before))
-
-mul-money : tie.Need-mul-money Inv-loop μ-loop
-mul-money c = omega (arith, free (c .before))
-
-array-write-money : tie.Need-array-write-money Inv-loop μ-loop
-array-write-money c = free (c .before)
-
 inserted-requires : tie.Need-inserted-requires Inv-loop μ-loop
 inserted-requires c κs =
     let e = c .before .before .before in
     turn-room (there (taken e)) (unbroken e) _ (standing (e .before .before) .ranked .ensures) (not-true _ (c .if3 .taken))
-
-add-count : tie.Need-add-count Inv-loop μ-loop
-add-count c = omega (arith, free (c .before .before .before))
 
 loop-less : tie.Need-loop-less Inv-loop μ-loop
 loop-less c =
@@ -208,30 +166,30 @@ security-section-spec =
     (tie.spec
     Inv-loop
     μ-loop
-    columns-of-requires
-    no-securities-requires
+    (λ c κs. search needs)
+    (λ c κs. search needs)
     loop-holds
     goes-on-requires
     security-row-requires
-    enum-known-read
+    (λ c. search needs)
     enum-told
-    security-number-requires
-    refused-requires
+    (λ c κs. search needs)
+    (λ c κs. search needs)
     returns
     ranked-requires
     class-of-requires
-    broken-requires
-    refused-requires-2
+    (λ c κs. search needs)
+    (λ c κs. search needs)
     returns-2
     security-of-requires
-    mul-rows
-    array-set-from-rows
-    mul-codes
-    array-write-codes
-    mul-money
-    array-write-money
+    (λ c. omega (arith, free (c .before)))
+    (λ c. free (c .before))
+    (λ c. omega (arith, free (c .before)))
+    (λ c. omega (arith, free (c .before)))
+    (λ c. omega (arith, free (c .before)))
+    (λ c. free (c .before))
     inserted-requires
-    add-count
+    (λ c. omega (arith, free (c .before .before .before)))
     loop-less
     loop-again
     with-ranks-requires

@@ -25,21 +25,6 @@ abbrev μ-loop : tie.MeasureT-loop
 loop-holds : tie.Need-loop-holds Inv-loop μ-loop
 loop-holds c = (omega arith, omega (arith, c .before .money .given), omega (arith, c .before .before .good .0 .1 .0 .1), refl)
 
-mul-security : tie.Need-mul-security Inv-loop μ-loop
-mul-security c = omega arith
-
-array-copy-out-security : tie.Need-array-copy-out-security Inv-loop μ-loop
-array-copy-out-security c = search needs
-
-mul-ranked : tie.Need-mul-ranked Inv-loop μ-loop
-mul-ranked c = omega arith
-
-shared-slice-read-ranked : tie.Need-shared-slice-read-ranked Inv-loop μ-loop
-shared-slice-read-ranked c = omega arith
-
-ranked-requires : tie.Need-ranked-requires Inv-loop μ-loop
-ranked-requires c κs = search needs
-
 cast-security : tie.Need-cast-security Inv-loop μ-loop
 cast-security c =
     let r = c .before in
@@ -47,18 +32,6 @@ cast-security c =
     let own = getD (a .money .now) (r .before .before .before .before .before .loop .i) 0 in
     let all = take (a .currencies .count) (a .currencies .numbers) in
     omega (arith, ap (λ (s : Standing). s .rank) (r .ranked .ensures), rank-most own all, length-take (a .currencies .count) (a .currencies .numbers))
-
-mul-ranked-rows : tie.Need-mul-ranked-rows Inv-loop μ-loop
-mul-ranked-rows c = omega arith
-
-array-set-from-ranked-rows : tie.Need-array-set-from-ranked-rows Inv-loop μ-loop
-array-set-from-ranked-rows c = search needs
-
-add-i : tie.Need-add-i Inv-loop μ-loop
-add-i c = omega arith
-
-loop-less : tie.Need-loop-less Inv-loop μ-loop
-loop-less c = omega arith
 
 loop-again : tie.Need-loop-again Inv-loop μ-loop
 loop-again c =
@@ -82,15 +55,15 @@ with-ranks-spec =
     Inv-loop
     μ-loop
     loop-holds
-    mul-security
-    array-copy-out-security
-    mul-ranked
-    shared-slice-read-ranked
-    ranked-requires
+    (λ c. omega arith)
+    (λ c. search needs)
+    (λ c. omega arith)
+    (λ c. omega arith)
+    (λ c κs. search needs)
     cast-security
-    mul-ranked-rows
-    array-set-from-ranked-rows
-    add-i
-    loop-less
+    (λ c. omega arith)
+    (λ c. search needs)
+    (λ c. omega arith)
+    (λ c. omega arith)
     loop-again
     returns)

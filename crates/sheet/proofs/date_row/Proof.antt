@@ -34,12 +34,6 @@ day-at-requires : tie.Need-day-at-requires
 day-at-requires c κs =
     let l = c .before .before .before .before in (its-line l .stands 0 (omega arith), l .before .before .before .before .pre .2)
 
-is-read-requires : tie.Need-is-read-requires
-is-read-requires c κs = search needs
-
-taken-requires : tie.Need-taken-requires
-taken-requires c κs = search needs
-
 returns-2 : tie.Need-returns-2
 returns-2 c =
     let test = c .before in
@@ -51,4 +45,4 @@ returns-2 c =
 pub date-row-spec : {M : Type 1} → statement M
 date-row-spec =
     tie.close
-    (tie.spec line-at-requires returns date-at-requires day-at-requires is-read-requires taken-requires returns-2)
+    (tie.spec line-at-requires returns date-at-requires day-at-requires (λ c κs. search needs) (λ c κs. search needs) returns-2)

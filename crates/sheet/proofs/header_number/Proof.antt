@@ -8,26 +8,14 @@ use Rattle.sheet.proofs.header_number.Tie as tie
 returns : tie.Need-returns
 returns c = no-mark (c .before .args .s .now) (λ e. let b = mark-bytes (c .before .args .s .now) e in omega arith)
 
-shared-slice-read-if2 : tie.Need-shared-slice-read-if2
-shared-slice-read-if2 c = search needs
-
 returns-2 : tie.Need-returns-2
 returns-2 c = no-mark (c .before .before .before .args .s .now) (λ e. c .if2 .taken (mark-bytes (c .before .before .before .args .s .now) e .1))
-
-shared-slice-read-if3 : tie.Need-shared-slice-read-if3
-shared-slice-read-if3 c = search needs
 
 returns-3 : tie.Need-returns-3
 returns-3 c = no-mark (c .before .before .before .before .before .args .s .now) (λ e. c .if3 .taken (mark-bytes (c .before .before .before .before .before .args .s .now) e .2))
 
-shared-slice-read-if4 : tie.Need-shared-slice-read-if4
-shared-slice-read-if4 c = search needs
-
 returns-4 : tie.Need-returns-4
 returns-4 c = no-mark (c .before .before .before .before .before .before .before .args .s .now) (λ e. c .if4 .taken (mark-bytes (c .before .before .before .before .before .before .before .args .s .now) e .3))
-
-shared-slice-read-if5 : tie.Need-shared-slice-read-if5
-shared-slice-read-if5 c = search needs
 
 returns-5 : tie.Need-returns-5
 returns-5 c = no-mark (c .before .before .before .before .before .before .before .before .before .args .s .now) (λ e. c .if5 .taken (mark-bytes (c .before .before .before .before .before .before .before .before .before .args .s .now) e .4))
@@ -38,17 +26,11 @@ returns-6 c =
     let m = mark-there s (omega arith) (c .before .before .before .before .before .before .before .if2 .left) (c .before .before .before .before .before .if3 .left) (c .before .before .before .if4 .left) (c .before .if5 .left) in
     no-version s m (λ e. let b = version-bytes s e in omega arith)
 
-shared-slice-read-if7 : tie.Need-shared-slice-read-if7
-shared-slice-read-if7 c = search needs
-
 returns-7 : tie.Need-returns-7
 returns-7 c =
     let s = c .before .before .before .before .before .before .before .before .before .before .before .before .args .s .now in
     let m = mark-there s (omega arith) (c .before .before .before .before .before .before .before .before .before .if2 .left) (c .before .before .before .before .before .before .before .if3 .left) (c .before .before .before .before .before .if4 .left) (c .before .before .before .if5 .left) in
     no-version s m (λ e. c .if7 .taken (version-bytes s e .1))
-
-shared-slice-read-if8 : tie.Need-shared-slice-read-if8
-shared-slice-read-if8 c = search needs
 
 returns-8 : tie.Need-returns-8
 returns-8 c =
@@ -67,17 +49,17 @@ header-number-spec =
     tie.close
     (tie.spec
     returns
-    shared-slice-read-if2
+    (λ c. search needs)
     returns-2
-    shared-slice-read-if3
+    (λ c. search needs)
     returns-3
-    shared-slice-read-if4
+    (λ c. search needs)
     returns-4
-    shared-slice-read-if5
+    (λ c. search needs)
     returns-5
     returns-6
-    shared-slice-read-if7
+    (λ c. search needs)
     returns-7
-    shared-slice-read-if8
+    (λ c. search needs)
     returns-8
     returns-9)

@@ -14,12 +14,6 @@ use Rattle.sheet.proofs.Starting.{header-right, header-wrong, header-en
 use Rattle.sheet.proofs.read_sheet.Statement.{statement}
 use Rattle.sheet.proofs.read_sheet.Tie as tie
 
-header-number-requires : tie.Need-header-number-requires
-header-number-requires c κs = search needs
-
-refused-requires : tie.Need-refused-requires
-refused-requires c κs = search needs
-
 returns : tie.Need-returns
 returns c =
     let h = c .before .before in
@@ -30,18 +24,6 @@ returns c =
 -- The header is right
 header-is : (c : tie.Else1) → headerNumber (c .before .before .before .args .s .now) ≡ 0
 header-is c = sym (c .before .header-number .ensures) ∙ c .if1 .left
-
-new-years-requires : tie.Need-new-years-requires
-new-years-requires c κs = search needs
-
-ended-requires : tie.Need-ended-requires
-ended-requires c κs = search needs
-
-goes-on-requires : tie.Need-goes-on-requires
-goes-on-requires c κs = search needs
-
-refused-requires-2 : tie.Need-refused-requires-2
-refused-requires-2 c κs = search needs
 
 returns-2 : tie.Need-returns-2
 returns-2 c =
@@ -67,17 +49,8 @@ date-row-requires c κs =
     let there = goes-before s 6 (endedLength s) 68 (goes f) in
     (omega (arith, there, f .before .before .ended .ensures), f .before .before .ended .ensures, f .before .before .before .new-years .ensures)
 
-enum-known-read : tie.Need-enum-known-read
-enum-known-read c = search needs
-
 enum-told : tie.Need-enum-told
 enum-told c = search needs
-
-date-number-requires : tie.Need-date-number-requires
-date-number-requires c κs = search needs
-
-refused-requires-3 : tie.Need-refused-requires-3
-refused-requires-3 c κs = search needs
 
 returns-3 : tie.Need-returns-3
 returns-3 c =
@@ -115,19 +88,19 @@ pub read-sheet-spec : {M : Type 1} → statement M
 read-sheet-spec =
     tie.close
     (tie.spec
-    header-number-requires
-    refused-requires
+    (λ c κs. search needs)
+    (λ c κs. search needs)
     returns
-    new-years-requires
-    ended-requires
-    goes-on-requires
-    refused-requires-2
+    (λ c κs. search needs)
+    (λ c κs. search needs)
+    (λ c κs. search needs)
+    (λ c κs. search needs)
     returns-2
     date-row-requires
-    enum-known-read
+    (λ c. search needs)
     enum-told
-    date-number-requires
-    refused-requires-3
+    (λ c κs. search needs)
+    (λ c κs. search needs)
     returns-3
     tables-from-requires
     returns-4)

@@ -74,14 +74,8 @@ c-is x = ap (λ x. x .section) (x .class-section .ensures)
 c-few : (x : tie.After-class-section) → c x .count ≤ 66_036
 c-few x = omega (arith, few-there (at-classes x 0) class-staged (c x) (c-is x) 40 classes-at-most, start x .pre .0)
 
-class-section-requires : tie.Need-class-section-requires
-class-section-requires c κs = search needs
-
 add-first : tie.Need-add-first
 add-first a = record { fits = omega (arith, c-few (a .before)) }
-
-refused-requires : tie.Need-refused-requires
-refused-requires c κs = search needs
 
 returns : tie.Need-returns
 returns a d e =
@@ -146,9 +140,6 @@ o-few y = omega (arith, few-there (at-priorities (y .before .before) 0) (priorit
 add-second : tie.Need-add-second
 add-second a = let y = a .before in record { fits = omega (arith, c-few (to-c y), o-few y) }
 
-refused-requires-2 : tie.Need-refused-requires-2
-refused-requires-2 c κs = search needs
-
 returns-2 : tie.Need-returns-2
 returns-2 a d e =
     let y = a .before .before .before .before in
@@ -200,9 +191,6 @@ add-third : tie.Need-add-third
 add-third a =
     let z = a .before in
     let y = to-o z in record { fits = omega (arith, c-few (to-c y), o-few y, b-few z) }
-
-refused-requires-3 : tie.Need-refused-requires-3
-refused-requires-3 c κs = search needs
 
 returns-3 : tie.Need-returns-3
 returns-3 a d e =
@@ -289,9 +277,6 @@ add-behind a =
     let z = to-b w in
     let y = to-o z in record { fits = omega (arith, c-few (to-c y), o-few y, b-few z, t-few w) }
 
-refused-requires-4 : tie.Need-refused-requires-4
-refused-requires-4 c κs = search needs
-
 returns-4 : tie.Need-returns-4
 returns-4 a d e =
     let w = a .before .before .before .before in
@@ -300,9 +285,6 @@ returns-4 a d e =
 -- ---- the end
 abbrev trades : tie.Else4 → tie.After-trade-section
 trades k = k .before .before .before
-
-refused-requires-5 : tie.Need-refused-requires-5
-refused-requires-5 c κs = search needs
 
 returns-5 : tie.Need-returns-5
 returns-5 a d e =
@@ -324,23 +306,23 @@ pub tables-from-spec : {M : Type 1} → statement M
 tables-from-spec =
     tie.close
     (tie.spec
-    class-section-requires
+    (λ c κs. search needs)
     add-first
-    refused-requires
+    (λ c κs. search needs)
     returns
     priority-section-requires
     add-second
-    refused-requires-2
+    (λ c κs. search needs)
     returns-2
     security-section-requires
     add-third
-    refused-requires-3
+    (λ c κs. search needs)
     returns-3
     working-after-requires
     trade-section-requires
     add-behind
-    refused-requires-4
+    (λ c κs. search needs)
     returns-4
-    refused-requires-5
+    (λ c κs. search needs)
     returns-5
     returns-6)

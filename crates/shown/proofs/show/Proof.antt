@@ -19,12 +19,6 @@ text s = shownText (answer (length (s .args .out .now)) (s .args .sheet .now))
 fits : (s : tie.Start) → length (text s) ≤ length (s .args .out .now)
 fits s = omega (arith, shown-fits (length (s .args .out .now)) (s .args .sheet .now), s .pre)
 
-brm-margin-requires : tie.Need-brm-margin-requires
-brm-margin-requires c κs = search needs
-
-same-length : tie.Need-same-length
-same-length c = search needs
-
 returns : tie.Need-returns
 returns c =
     let k = c .before .before .before in
@@ -43,9 +37,6 @@ refusal-line-requires c κs =
     in
     omega (arith, refusal-short (k .brm-margin .result / 65_536) (k .brm-margin .result % 65_536) low (omega arith), ap length same, s .pre)
 
-same-length-2 : tie.Need-same-length-2
-same-length-2 c = search needs
-
 returns-2 : tie.Need-returns-2
 returns-2 c =
     let r = c .before .before in
@@ -63,9 +54,9 @@ pub show-spec : {M : Type 1} → statement M
 show-spec =
     tie.close
     (tie.spec
-    brm-margin-requires
-    same-length
+    (λ c κs. search needs)
+    (λ c. search needs)
     returns
     refusal-line-requires
-    same-length-2
+    (λ c. search needs)
     returns-2)

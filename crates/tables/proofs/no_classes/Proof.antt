@@ -5,11 +5,8 @@ use Rattle.tables.proofs.Padded.{padded-none}
 use Rattle.tables.proofs.no_classes.Statement.{statement}
 use Rattle.tables.proofs.no_classes.Tie as tie
 
-no-class-requires : tie.Need-no-class-requires
-no-class-requires c κs = search needs
-
 returns : tie.Need-returns
 returns c = rw (c .no-class .ensures, padded-none 40 noClass)
 
 pub no-classes-spec : {M : Type 1} → statement M
-no-classes-spec = tie.close (tie.spec no-class-requires returns)
+no-classes-spec = tie.close (tie.spec (λ c κs. search needs) returns)

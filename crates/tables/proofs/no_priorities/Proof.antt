@@ -5,11 +5,8 @@ use Rattle.tables.proofs.Padded.{padded-none}
 use Rattle.tables.proofs.no_priorities.Statement.{statement}
 use Rattle.tables.proofs.no_priorities.Tie as tie
 
-no-priority-requires : tie.Need-no-priority-requires
-no-priority-requires c κs = search needs
-
 returns : tie.Need-returns
 returns c = rw (c .no-priority .ensures, padded-none 200 noPriority)
 
 pub no-priorities-spec : {M : Type 1} → statement M
-no-priorities-spec = tie.close (tie.spec no-priority-requires returns)
+no-priorities-spec = tie.close (tie.spec (λ c κs. search needs) returns)

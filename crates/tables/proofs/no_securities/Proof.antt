@@ -6,14 +6,8 @@ use Rattle.tables.proofs.Padded.{padded-none}
 use Rattle.tables.proofs.no_securities.Statement.{statement}
 use Rattle.tables.proofs.no_securities.Tie as tie
 
-no-security-requires : tie.Need-no-security-requires
-no-security-requires c κs = search needs
-
-no-currencies-requires : tie.Need-no-currencies-requires
-no-currencies-requires c κs = search needs
-
 returns : tie.Need-returns
 returns c = rw (c .before .no-security .ensures, c .no-currencies .ensures, padded-none 200 noSecurity, padded-none 256 highest)
 
 pub no-securities-spec : {M : Type 1} → statement M
-no-securities-spec = tie.close (tie.spec no-security-requires no-currencies-requires returns)
+no-securities-spec = tie.close (tie.spec (λ c κs. search needs) (λ c κs. search needs) returns)

@@ -5,11 +5,8 @@ use Rattle.tables.proofs.Padded.{padded-none}
 use Rattle.tables.proofs.no_trades.Statement.{statement}
 use Rattle.tables.proofs.no_trades.Tie as tie
 
-no-trade-requires : tie.Need-no-trade-requires
-no-trade-requires c κs = search needs
-
 returns : tie.Need-returns
 returns c = rw (c .no-trade .ensures, padded-none 500 noTrade)
 
 pub no-trades-spec : {M : Type 1} → statement M
-no-trades-spec = tie.close (tie.spec no-trade-requires returns)
+no-trades-spec = tie.close (tie.spec (λ c κs. search needs) returns)

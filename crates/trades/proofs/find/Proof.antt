@@ -51,33 +51,6 @@ loop-holds c =
 parted : (l : tie.In-loop Inv-loop μ-loop) → (4 * (l .before .loop .size / 4) ≡ l .before .loop .size) × Sized (l .before .loop .size / 4)
 parted l = next-size (l .before .loop .inv .0) (l .loop-test .taken)
 
-add-if1 : tie.Need-add-if1 Inv-loop μ-loop
-add-if1 c = omega (arith, parted c .0)
-
-sub-if1 : tie.Need-sub-if1 Inv-loop μ-loop
-sub-if1 c = omega (arith, parted c .0)
-
-mul-if1 : tie.Need-mul-if1 Inv-loop μ-loop
-mul-if1 c = omega (arith, parted c .0)
-
-shared-slice-read-if1 : tie.Need-shared-slice-read-if1 Inv-loop μ-loop
-shared-slice-read-if1 c = omega (arith, parted (c .before) .0)
-
-mul-if2 : tie.Need-mul-if2 Inv-loop μ-loop
-mul-if2 c = omega (arith, parted (c .before .before) .0)
-
-add-if2 : tie.Need-add-if2 Inv-loop μ-loop
-add-if2 c = omega (arith, parted (c .before .before) .0)
-
-sub-if2 : tie.Need-sub-if2 Inv-loop μ-loop
-sub-if2 c = omega (arith, parted (c .before .before) .0)
-
-mul-if2-2 : tie.Need-mul-if2-2 Inv-loop μ-loop
-mul-if2-2 c = omega (arith, parted (c .before .before) .0)
-
-shared-slice-read-if2 : tie.Need-shared-slice-read-if2 Inv-loop μ-loop
-shared-slice-read-if2 c = omega (arith, parted (c .before .before .before) .0)
-
 mul-if3 : tie.Need-mul-if3 Inv-loop μ-loop
 mul-if3 c = omega (arith, parted (c .before .before .before .before) .0)
 
@@ -153,12 +126,6 @@ loop-again c =
     let v = l .loop .inv in
     (parted (turn j) .1, omega (arith, most j, parted (turn j) .0, v .1), v .2, turned j .0, turned j .1)
 
-mul-if4 : tie.Need-mul-if4 Inv-loop μ-loop
-mul-if4 c = omega arith
-
-shared-slice-read-if4 : tie.Need-shared-slice-read-if4 Inv-loop μ-loop
-shared-slice-read-if4 c = omega (arith, some (c .before .before .loop .inv .0))
-
 -- At the end one place is left
 module _ (l : tie.After-loop Inv-loop μ-loop) where
   abbrev last : tie.At-loop Inv-loop μ-loop
@@ -195,15 +162,15 @@ find-spec =
     Inv-loop
     μ-loop
     loop-holds
-    add-if1
-    sub-if1
-    mul-if1
-    shared-slice-read-if1
-    mul-if2
-    add-if2
-    sub-if2
-    mul-if2-2
-    shared-slice-read-if2
+    (λ c. omega (arith, parted c .0))
+    (λ c. omega (arith, parted c .0))
+    (λ c. omega (arith, parted c .0))
+    (λ c. omega (arith, parted (c .before) .0))
+    (λ c. omega (arith, parted (c .before .before) .0))
+    (λ c. omega (arith, parted (c .before .before) .0))
+    (λ c. omega (arith, parted (c .before .before) .0))
+    (λ c. omega (arith, parted (c .before .before) .0))
+    (λ c. omega (arith, parted (c .before .before .before) .0))
     mul-if3
     add-if3
     sub-if3
@@ -214,7 +181,7 @@ find-spec =
     add-low-3
     loop-less
     loop-again
-    mul-if4
-    shared-slice-read-if4
+    (λ c. omega arith)
+    (λ c. omega (arith, some (c .before .before .loop .inv .0)))
     returns
     returns-2)

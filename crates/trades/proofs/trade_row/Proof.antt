@@ -41,81 +41,6 @@ standing c k h = its-line c .stands k h
 end-below : (c : tie.Else1) (k : ℕ) → k + 1 < 9 → getD (c .before .before .line-at .result .ends) k 0 < 18446744073709551615
 end-below c k h = omega (arith, standing c k h .ordered, standing c k h .inside)
 
-array-read-code : tie.Need-array-read-code
-array-read-code c = search needs
-
-add-code : tie.Need-add-code
-add-code c = omega (arith, end-below (c .before) 2 (omega arith))
-
-letter-at-requires : tie.Need-letter-at-requires
-letter-at-requires c κs = search (standing, needs)
-
-letter-at-requires-2 : tie.Need-letter-at-requires-2
-letter-at-requires-2 c κs = search (standing, needs)
-
-code-at-requires : tie.Need-code-at-requires
-code-at-requires c κs = search (standing, needs)
-
-number-at-requires : tie.Need-number-at-requires
-number-at-requires c κs = search (standing, needs)
-
-number-at-requires-2 : tie.Need-number-at-requires-2
-number-at-requires-2 c κs = search (standing, needs)
-
-day-at-requires : tie.Need-day-at-requires
-day-at-requires c κs = search (standing, needs)
-
-day-at-requires-2 : tie.Need-day-at-requires-2
-day-at-requires-2 c κs = search (standing, needs)
-
-rate-at-requires : tie.Need-rate-at-requires
-rate-at-requires c κs = search (standing, needs)
-
-is-blank-requires : tie.Need-is-blank-requires
-is-blank-requires c κs = search (end-below, needs)
-
-is-blank-requires-2 : tie.Need-is-blank-requires-2
-is-blank-requires-2 c κs = search (end-below, needs)
-
-is-rate-requires : tie.Need-is-rate-requires
-is-rate-requires c κs = search needs
-
-holds-requires : tie.Need-holds-requires
-holds-requires c κs = search needs
-
-is-read-requires : tie.Need-is-read-requires
-is-read-requires c κs = search needs
-
-is-read-requires-2 : tie.Need-is-read-requires-2
-is-read-requires-2 c κs = search needs
-
-is-read-requires-3 : tie.Need-is-read-requires-3
-is-read-requires-3 c κs = search needs
-
-is-read-requires-4 : tie.Need-is-read-requires-4
-is-read-requires-4 c κs = search needs
-
-is-read-requires-5 : tie.Need-is-read-requires-5
-is-read-requires-5 c κs = search needs
-
-is-read-requires-6 : tie.Need-is-read-requires-6
-is-read-requires-6 c κs = search needs
-
-follows-requires : tie.Need-follows-requires
-follows-requires c κs = search needs
-
-holds-requires-2 : tie.Need-holds-requires-2
-holds-requires-2 c κs = search needs
-
-last-of-requires : tie.Need-last-of-requires
-last-of-requires c κs = search needs
-
-rate-of-requires : tie.Need-rate-of-requires
-rate-of-requires c κs = search needs
-
-taken-requires : tie.Need-taken-requires
-taken-requires c κs = search needs
-
 -- Back from where all is told to where the line is, field by field
 returns-2 : tie.Need-returns-2
 returns-2 c =
@@ -157,29 +82,29 @@ trade-row-spec =
     (tie.spec
     line-at-requires
     returns
-    array-read-code
-    add-code
-    letter-at-requires
-    letter-at-requires-2
-    code-at-requires
-    number-at-requires
-    number-at-requires-2
-    day-at-requires
-    day-at-requires-2
-    rate-at-requires
-    is-blank-requires
-    is-blank-requires-2
-    is-rate-requires
-    holds-requires
-    is-read-requires
-    is-read-requires-2
-    is-read-requires-3
-    is-read-requires-4
-    is-read-requires-5
-    is-read-requires-6
-    follows-requires
-    holds-requires-2
-    last-of-requires
-    rate-of-requires
-    taken-requires
+    (λ c. search needs)
+    (λ c. omega (arith, end-below (c .before) 2 (omega arith)))
+    (λ c κs. search (standing, needs))
+    (λ c κs. search (standing, needs))
+    (λ c κs. search (standing, needs))
+    (λ c κs. search (standing, needs))
+    (λ c κs. search (standing, needs))
+    (λ c κs. search (standing, needs))
+    (λ c κs. search (standing, needs))
+    (λ c κs. search (standing, needs))
+    (λ c κs. search (end-below, needs))
+    (λ c κs. search (end-below, needs))
+    (λ c κs. search needs)
+    (λ c κs. search needs)
+    (λ c κs. search needs)
+    (λ c κs. search needs)
+    (λ c κs. search needs)
+    (λ c κs. search needs)
+    (λ c κs. search needs)
+    (λ c κs. search needs)
+    (λ c κs. search needs)
+    (λ c κs. search needs)
+    (λ c κs. search needs)
+    (λ c κs. search needs)
+    (λ c κs. search needs)
     returns-2)

@@ -32,9 +32,6 @@ Inv-loop s years from end today working securities codes held rows₀ count₀ a
 abbrev μ-loop : tie.MeasureT-loop
 μ-loop s years from end today working securities codes held rows₀ count₀ at₀ rows count at = end - at
 
-no-trades-requires : tie.Need-no-trades-requires Inv-loop μ-loop
-no-trades-requires c κs = search needs
-
 abbrev begin : tie.At-loop Inv-loop μ-loop → tie.Start Inv-loop μ-loop
 begin l = l .before .before .before .before .before .before
 
@@ -66,17 +63,8 @@ trade-row-requires c κs =
     let b = begin (c .before .before) in
     (goes-before (b .args .s .now) (c .before .before .loop .at) (b .args .end) 84 (sym (c .before .goes-on .ensures) ∙ c .if1 .taken), b .pre .0 .1, b .pre .0 .2)
 
-enum-known-read : tie.Need-enum-known-read Inv-loop μ-loop
-enum-known-read c = search needs
-
 enum-told : tie.Need-enum-told Inv-loop μ-loop
 enum-told c = search needs
-
-trade-number-requires : tie.Need-trade-number-requires Inv-loop μ-loop
-trade-number-requires c κs = search needs
-
-refused-requires : tie.Need-refused-requires Inv-loop μ-loop
-refused-requires c κs = search needs
 
 returns : tie.Need-returns Inv-loop μ-loop
 returns c =
@@ -100,15 +88,6 @@ there c =
 find-requires : tie.Need-find-requires Inv-loop μ-loop
 find-requires c κs = begin (turn (c .before) .before .before) .pre .1
 
-place-or-first-requires : tie.Need-place-or-first-requires Inv-loop μ-loop
-place-or-first-requires c κs = search needs
-
-is-margined-requires : tie.Need-is-margined-requires Inv-loop μ-loop
-is-margined-requires c κs = search needs
-
-accrual-day-requires : tie.Need-accrual-day-requires Inv-loop μ-loop
-accrual-day-requires c κs = search needs
-
 -- The place that is looked at is one of the table
 known-below : (c : tie.After-place-or-first Inv-loop μ-loop) → c .place-or-first .result < 200
 known-below c = rw (c .place-or-first .ensures) (place-below _ _ (begin (turn (c .before .before .before .before) .before .before) .pre .1 .0))
@@ -119,17 +98,8 @@ known : (c : tie.After-place-or-first Inv-loop μ-loop)
     c .place-or-first .result ≡ knownOf (a .today) (a .working) (a .securities) (r .before .read .given .0 .0)
 known c = cc
 
-mul-in-period : tie.Need-mul-in-period Inv-loop μ-loop
-mul-in-period c = omega (arith, known-below (c .before .before .before))
-
 array-copy-out-in-period : tie.Need-array-copy-out-in-period Inv-loop μ-loop
 array-copy-out-in-period c = known-below (c .before .before .before)
-
-in-period-requires : tie.Need-in-period-requires Inv-loop μ-loop
-in-period-requires c κs = search needs
-
-broken-requires : tie.Need-broken-requires Inv-loop μ-loop
-broken-requires c κs = search needs
 
 -- Back from where the row is judged to where it was read
 abbrev row : tie.After-accrual-day Inv-loop μ-loop → tie.After-known-told Inv-loop μ-loop
@@ -145,9 +115,6 @@ judged : (c : tie.After-broken Inv-loop μ-loop)
     let a = begin l .args in
     c .broken .result ≡ brokenRow (a .today) (a .working) (a .securities) (l .loop .count) (r .before .read .given .0 .0)
 judged c = cc
-
-refused-requires-2 : tie.Need-refused-requires-2 Inv-loop μ-loop
-refused-requires-2 c κs = search needs
 
 returns-2 : tie.Need-returns-2 Inv-loop μ-loop
 returns-2 c =
@@ -184,15 +151,6 @@ trade-of-requires c κs =
     let j = judging (c .before) in
     (few, known-below (j .before .before .before), rw (j .accrual-day .ensures) (accrual-below (eqb (its-read c .trade) 1) (few .first) (begin l .pre .0 .4)))
 
-mul-rows : tie.Need-mul-rows Inv-loop μ-loop
-mul-rows c = omega (arith, free (c .before))
-
-array-set-from-rows : tie.Need-array-set-from-rows Inv-loop μ-loop
-array-set-from-rows c = free (c .before)
-
-add-count : tie.Need-add-count Inv-loop μ-loop
-add-count c = omega (arith, free (c .before))
-
 loop-less : tie.Need-loop-less Inv-loop μ-loop
 loop-less c = omega (arith, there (its-row (c .before)) .further, begin (its-loop (c .before)) .pre .0 .1)
 
@@ -227,29 +185,29 @@ trade-section-spec =
     (tie.spec
     Inv-loop
     μ-loop
-    no-trades-requires
+    (λ c κs. search needs)
     loop-holds
     goes-on-requires
     trade-row-requires
-    enum-known-read
+    (λ c. search needs)
     enum-told
-    trade-number-requires
-    refused-requires
+    (λ c κs. search needs)
+    (λ c κs. search needs)
     returns
     find-requires
-    place-or-first-requires
-    is-margined-requires
-    accrual-day-requires
-    mul-in-period
+    (λ c κs. search needs)
+    (λ c κs. search needs)
+    (λ c κs. search needs)
+    (λ c. omega (arith, known-below (c .before .before .before)))
     array-copy-out-in-period
-    in-period-requires
-    broken-requires
-    refused-requires-2
+    (λ c κs. search needs)
+    (λ c κs. search needs)
+    (λ c κs. search needs)
     returns-2
     trade-of-requires
-    mul-rows
-    array-set-from-rows
-    add-count
+    (λ c. omega (arith, free (c .before)))
+    (λ c. free (c .before))
+    (λ c. omega (arith, free (c .before)))
     loop-less
     loop-again
     returns-3)

@@ -25,8 +25,5 @@ mul-nearest-2 c = record { fits = omega (arith, divisor-most c) }
 nearest-requires : tie.Need-nearest-requires
 nearest-requires c κs = accrual-divisor-low (c .args .payments) (c .args .period) (c .pre .1) (c .pre .4)
 
-returns : tie.Need-returns
-returns c = search needs
-
 pub accrued-spec : {M : Type 1} → statement M
-accrued-spec = tie.close (tie.spec mul-nearest mul-nearest-2 nearest-requires returns)
+accrued-spec = tie.close (tie.spec mul-nearest mul-nearest-2 nearest-requires (λ c. search needs))

@@ -26,9 +26,6 @@ product-within c = interest-product-most (c .args .days) (c .args .amount) (c .a
 mul-positive : tie.Need-mul-positive
 mul-positive c = record { fits = omega (arith, days-amount-within c) }
 
-positive-requires : tie.Need-positive-requires
-positive-requires c κs = omega (arith, days-amount-within c)
-
 -- What is read back of days × amount
 days-amount-back : (c : tie.After-positive) → toZ w64 (ofZ w64 (c .positive .result)) ≡ pos (c .before .args .days * c .before .args .amount)
 days-amount-back c =
@@ -64,4 +61,4 @@ returns c =
 
 pub interest-spec : {M : Type 1} → statement M
 interest-spec =
-    tie.close (tie.spec mul-positive positive-requires product-requires rounded-requires returns)
+    tie.close (tie.spec mul-positive (λ c κs. omega (arith, days-amount-within c)) product-requires rounded-requires returns)

@@ -25,9 +25,6 @@ returns c = rw (c .if1 .taken)
 sub-days : tie.Need-sub-days
 sub-days c = c .before .before .before .pre .began (repo (c .before))
 
-cast-days : tie.Need-cast-days
-cast-days c = search needs
-
 -- The rate is read back as it is, ten-thousandths of a percent
 rate-back : (c : tie.Start) → toZ w64 (ofZ w64 (c .args .trade .rate)) ≡ c .args .trade .rate
 rate-back c = read-back (c .args .trade .rate) refl (omega (arith, c .pre .rate))
@@ -46,4 +43,4 @@ returns-2 c =
     (omega (arith, interest-within t (s .pre)))
 
 pub interest-of-spec : {M : Type 1} → statement M
-interest-of-spec = tie.close (tie.spec returns sub-days cast-days interest-requires returns-2)
+interest-of-spec = tie.close (tie.spec returns sub-days (λ c. search needs) interest-requires returns-2)

@@ -16,12 +16,6 @@ use Rattle.valuation.proofs.mark_to_market.Tie as tie
 sizes : (c : tie.Start) → MarkFacts (c .args .worth) (c .args .amount) (c .args .due) (c .args .sign)
 sizes c = mark-most (c .args .worth) (c .args .amount) (c .args .due) (c .args .sign) (c .pre .0) (c .pre .1) (c .pre .2) (c .pre .3)
 
-positive-requires : tie.Need-positive-requires
-positive-requires c κs = search needs
-
-positive-requires-2 : tie.Need-positive-requires-2
-positive-requires-2 c κs = search needs
-
 -- What is read back of the two amounts, cents
 worth-back : (c : tie.After-positive) → toZ w64 (ofZ w64 (c .positive .result)) ≡ pos (c .before .args .worth)
 worth-back c = read-back (pos (c .before .args .worth)) (c .positive .ensures) (omega arith)
@@ -87,8 +81,8 @@ pub mark-to-market-spec : {M : Type 1} → statement M
 mark-to-market-spec =
     tie.close
     (tie.spec
-    positive-requires
-    positive-requires-2
+    (λ c κs. search needs)
+    (λ c κs. search needs)
     difference-requires
     product-requires
     difference-requires-2

@@ -9,11 +9,5 @@ use Rattle.valuation.proofs.revaluated.Tie as tie
 mul-nearest : tie.Need-mul-nearest
 mul-nearest c = record { fits = lt-of-le-of-lt (worth-product-most _ _ (omega arith) (omega arith)) (omega arith) }
 
-nearest-requires : tie.Need-nearest-requires
-nearest-requires c κs = search needs
-
-returns : tie.Need-returns
-returns c = search needs
-
 pub revaluated-spec : {M : Type 1} → statement M
-revaluated-spec = tie.close (tie.spec mul-nearest nearest-requires returns)
+revaluated-spec = tie.close (tie.spec mul-nearest (λ c κs. search needs) (λ c. search needs))

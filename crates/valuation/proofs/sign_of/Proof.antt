@@ -11,16 +11,10 @@ use Rattle.valuation.proofs.sign_of.Tie as tie
 returns : tie.Need-returns
 returns c = rw (c .before .if1 .taken, c .if2 .taken)
 
-negative-requires : tie.Need-negative-requires
-negative-requires c κs = search needs
-
 returns-2 : tie.Need-returns-2
 returns-2 c =
     let t = c .before in
     rw (t .before .if1 .taken, ne-eqb (t .before .before .args .side) 1 (t .if2 .left), sideOf) (read-back (negsuc 0) (c .negative .ensures) (omega arith))
-
-negative-requires-2 : tie.Need-negative-requires-2
-negative-requires-2 c κs = search needs
 
 returns-3 : tie.Need-returns-3
 returns-3 c =
@@ -35,4 +29,4 @@ returns-4 c =
 pub sign-of-spec : {M : Type 1} → statement M
 sign-of-spec =
     tie.close
-    (tie.spec returns negative-requires returns-2 negative-requires-2 returns-3 returns-4)
+    (tie.spec returns (λ c κs. search needs) returns-2 (λ c κs. search needs) returns-3 returns-4)

@@ -29,9 +29,6 @@ margined c = not-false (c .before .before .args .trade .margined) (c .if1 .left)
 ranges : (c : tie.Else1) → let a = c .before .before .args in Ranged (a .trade) × Quoted (a .security) (a .trade .accrual)
 ranges c = c .before .before .pre (margined c)
 
-cast-revaluated : tie.Need-cast-revaluated
-cast-revaluated c = search needs
-
 quote-on-requires : tie.Need-quote-on-requires
 quote-on-requires c κs = ranges (c .before) .1
 
@@ -53,17 +50,11 @@ worth-is c = c .revaluated .ensures ∙ ap (revaluated (start c .args .trade .no
 worth-most : (c : tie.After-revaluated) → worthIn (start c .args .trade) (start c .args .security) ≤ mostWorth
 worth-most c = let r = ranges (c .before .before .before) in worth-within (start c .args .trade) (start c .args .security) (r .0) (r .1)
 
-sign-of-requires : tie.Need-sign-of-requires
-sign-of-requires c κs = search needs
-
 -- What is read back of the sign
 sign-back : (c : tie.After-sign-of) → toZ w64 (ofZ w64 (c .sign-of .result)) ≡ signIn (start (c .before) .args .trade)
 sign-back c =
     let t = start (c .before) .args .trade in
     read-back (signIn t) (c .sign-of .ensures) (omega (arith, sign-one t))
-
-positive-requires : tie.Need-positive-requires
-positive-requires c κs = omega (arith, worth-is (c .before), worth-most (c .before))
 
 -- ... of the revaluated amount
 worth-back : (c : tie.After-positive) → let a = start (c .before .before) .args in
@@ -119,11 +110,11 @@ value-of-spec =
     tie.close
     (tie.spec
     returns
-    cast-revaluated
+    (λ c. search needs)
     quote-on-requires
     revaluated-requires
-    sign-of-requires
-    positive-requires
+    (λ c κs. search needs)
+    (λ c κs. omega (arith, worth-is (c .before), worth-most (c .before)))
     product-requires
     interest-of-requires
     mark-to-market-requires

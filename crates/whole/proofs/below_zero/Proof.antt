@@ -14,9 +14,6 @@ use Rattle.whole.proofs.below_zero.Tie as tie
 difference-requires : tie.Need-difference-requires
 difference-requires c κs = omega (arith, c .pre, ap natAbs (toZ-ofZ w64 (c .args .z) (c .fits .z)))
 
-above-zero-requires : tie.Need-above-zero-requires
-above-zero-requires c κs = search needs
-
 returns : tie.Need-returns
 returns c =
     c .above-zero .ensures
@@ -24,4 +21,4 @@ returns c =
     ∙ above-negative (c .before .before .args .z)
 
 pub below-zero-spec : {M : Type 1} → statement M
-below-zero-spec = tie.close (tie.spec difference-requires above-zero-requires returns)
+below-zero-spec = tie.close (tie.spec difference-requires (λ c κs. search needs) returns)

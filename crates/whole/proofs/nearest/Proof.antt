@@ -16,15 +16,6 @@ tied c = let a = c .before .before .args in nearest-tie (a .product) (a .divisor
 more : (c : tie.Else2) → let a = c .before .before .args in nearest (a .product) (a .divisor) ≡ a .product / a .divisor + 1
 more c = let a = c .before .before .args in nearest-more (a .product) (a .divisor) (omega (arith, c .if2 .left, c .before .if1 .left))
 
-div-quotient : tie.Need-div-quotient
-div-quotient c = search needs
-
-rem-remainder : tie.Need-rem-remainder
-rem-remainder c = search needs
-
-sub-missing : tie.Need-sub-missing
-sub-missing c = omega (arith, mod-lt (c .args .product) (c .pre))
-
 add-result : tie.Need-add-result
 add-result c =
     let s = c .before .before in
@@ -47,4 +38,4 @@ returns-3 c = sym (more c)
 pub nearest-spec : {M : Type 1} → statement M
 nearest-spec =
     tie.close
-    (tie.spec div-quotient rem-remainder sub-missing add-result add-result-2 returns returns-2 returns-3)
+    (tie.spec (λ c. search needs) (λ c. search needs) (λ c. omega (arith, mod-lt (c .args .product) (c .pre))) add-result add-result-2 returns returns-2 returns-3)

@@ -8,9 +8,6 @@ use Rattle.whole.proofs.Signs.{read-back, from-zero}
 use Rattle.whole.proofs.negative.Statement.{statement}
 use Rattle.whole.proofs.negative.Tie as tie
 
-positive-requires : tie.Need-positive-requires
-positive-requires c κs = search needs
-
 difference-requires : tie.Need-difference-requires
 difference-requires c κs =
     omega (arith, c .before .pre, ap natAbs (read-back (pos (c .before .args .n)) (c .positive .ensures) (c .before .pre)))
@@ -23,4 +20,4 @@ returns c =
     ∙ ap negℤ (c .before .positive .ensures)
 
 pub negative-spec : {M : Type 1} → statement M
-negative-spec = tie.close (tie.spec positive-requires difference-requires returns)
+negative-spec = tie.close (tie.spec (λ c κs. search needs) difference-requires returns)

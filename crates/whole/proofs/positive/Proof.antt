@@ -7,11 +7,8 @@ use Rattle.whole.proofs.Signs.{fits}
 use Rattle.whole.proofs.positive.Statement.{statement}
 use Rattle.whole.proofs.positive.Tie as tie
 
-cast-result : tie.Need-cast-result
-cast-result c = search needs
-
 returns : tie.Need-returns
 returns c = toZ-ofZ w64 (pos (c .args .n)) (fits (pos (c .args .n)) (c .pre))
 
 pub positive-spec : {M : Type 1} → statement M
-positive-spec = tie.close (tie.spec cast-result returns)
+positive-spec = tie.close (tie.spec (λ c. search needs) returns)

@@ -28,9 +28,6 @@ negative-requires c κs =
     (c .before .below-zero .ensures)
     (c .nearest .ensures)
 
-above-zero-requires : tie.Need-above-zero-requires
-above-zero-requires c κs = search needs
-
 nearest-requires-2 : tie.Need-nearest-requires-2
 nearest-requires-2 c κs = c .before .before .pre .0
 
@@ -70,7 +67,7 @@ rounded-spec =
     below-zero-requires
     nearest-requires
     negative-requires
-    above-zero-requires
+    (λ c κs. search needs)
     nearest-requires-2
     positive-requires
     returns
