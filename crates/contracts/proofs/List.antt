@@ -30,6 +30,9 @@ use Rattle.tables.proofs.no_currencies.Reads as tables-no-currencies
 use Rattle.tables.proofs.no_securities.Reads as tables-no-securities
 use Rattle.tables.proofs.no_trades.Reads as tables-no-trades
 use Rattle.tables.proofs.no_tables.Reads as tables-no-tables
+use Rattle.tables.proofs.find.Reads as tables-find
+use Rattle.tables.proofs.ranked.Reads as tables-ranked
+use Rattle.tables.proofs.inserted.Reads as tables-inserted
 use Rattle.places.proofs.ended.Reads as places-ended
 use Rattle.places.proofs.line_at.Reads as places-line-at
 use Rattle.fields.proofs.number_at.Reads as fields-number-at
@@ -139,6 +142,15 @@ tables-no-trades-fixed κs a x y s u p q = one p q
 
 pub tables-no-tables-fixed : Fixes tables-no-tables.Post
 tables-no-tables-fixed κs a x y s u p q = one p q
+
+pub tables-find-fixed : Fixes tables-find.Post
+tables-find-fixed κs a x y s u p q = one p q
+
+pub tables-ranked-fixed : Fixes tables-ranked.Post
+tables-ranked-fixed κs a x y s u p q = one p q
+
+pub tables-inserted-fixed : Fixes tables-inserted.Post
+tables-inserted-fixed κs a x y s u p q = one p q
 
 pub places-ended-fixed : Fixes places-ended.Post
 places-ended-fixed κs a x y s u p q = one p q

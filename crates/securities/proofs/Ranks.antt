@@ -19,8 +19,8 @@ use Rattle.paper.proofs.Currencies.{has-currency, each-currency}
 use Rattle.tables.specs.Numbers.{currencyNumber, numberPlace}
 use Rattle.tables.specs.Held.{currencyTable}
 use Rattle.tables.proofs.Numbers.{currency-number-before, currency-number-same}
-use Rattle.securities.specs.Ranks.{rankedOf, putIn, insertedAt}
-use Rattle.securities.specs.declared.Standing.{Standing}
+use Rattle.tables.specs.Ranks.{rankedOf, putIn, insertedAt}
+use Rattle.tables.specs.declared.Standing.{Standing}
 
 -- A number is below another, the same, or above it
 data Placing (m n : ℕ) : Type 0 where

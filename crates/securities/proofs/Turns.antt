@@ -37,13 +37,14 @@ use Rattle.sections.proofs.Rooms as rooms
 use Rattle.sections.proofs.Rooms.{Room}
 use Rattle.securities.specs.Read.{heldRow, securityRead}
 use Rattle.securities.specs.Classes.{columnsOf, classIn}
-use Rattle.securities.specs.Ranks.{rankedOf, insertedAt, withRank}
+use Rattle.tables.specs.Ranks.{rankedOf, insertedAt}
+use Rattle.securities.specs.Ranks.{withRank}
 use Rattle.securities.specs.Section.{Small, brokenOf, securityOf}
 use Rattle.securities.specs.declared.SecurityRow.{SecurityRow}
 use Rattle.securities.specs.declared.SecurityRead.{SecurityRead}
 use Rattle.securities.specs.declared.SecurityRead.the-variants as reads
 use Rattle.securities.specs.declared.SecuritySection.{SecuritySection}
-use Rattle.securities.specs.declared.Standing.{Standing}
+use Rattle.tables.specs.declared.Standing.{Standing}
 use Rattle.securities.proofs.Classes.{Classed, class-is, class-given, class-most, table-classed}
 use Rattle.securities.proofs.Codes.{lastOf, last-before}
 use Rattle.securities.proofs.Row.{payments-parts}

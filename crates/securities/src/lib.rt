@@ -24,7 +24,7 @@ ghost use Rattle.tables.specs.Numbers.{kindNumber};
 ghost use Rattle.tables.specs.Back.{kindOf, paperClasses, ranged};
 ghost use Rattle.securities.specs.Read.{takenOf, securityRead, securityNumber};
 ghost use Rattle.securities.specs.Classes.{columnsOf, classIn};
-ghost use Rattle.securities.specs.Ranks.{rankedOf, insertedAt, withRank};
+ghost use Rattle.securities.specs.Ranks.{withRank};
 ghost use Rattle.securities.specs.Section.{securitySection, brokenOf, Small, securityOf};
 
 // An S row.
@@ -52,12 +52,6 @@ pub struct Columns {
     pub kinds: [u64; 40], // by their numbers
     pub borders: [u64; 40], // ten-thousandths of a year
     pub numbers: [u64; 40], // 1..40
-}
-
-// Where a currency stands among the rising ones, or would stand.
-pub struct Standing {
-    pub rank: usize, // currencies before it
-    pub there: bool,
 }
 
 // The section: how it went, and its rows; none where it is refused.
@@ -192,63 +186,6 @@ fn class_of(
     0
 }
 
-// Where a currency stands among rising ones: behind those that come before it. Eight turns, whatever they are: no branch depends
-// on them, since one that is guessed wrong costs more than the few steps left.
-fn ranked(
-    numbers: &[Money; 8],
-    count: usize, // currencies
-    own: Money,
-) -> Standing
-    requires { ⌜ count ≤ 8 ⌝ }
-    ensures { λ r. ⌜ r ≡ rankedOf (take count (now (numbers .entry))) own ⌝ }
-{
-    let numbers: &[Money] = numbers; // as a slice: a proof is told its length
-    let mut rank: usize = 0; // currencies before it
-    let mut more: usize = 1; // 1 while all so far come before it, then 0
-    let mut i: usize = 0; // currencies
-    while i < 8 {
-        let number = if i < count { numbers[i] } else { own };
-        let next = if number < own { more } else { 0 };
-        rank += next;
-        more = next;
-        i += 1;
-    }
-    let there = if rank < count {
-        numbers[rank] == own
-    } else {
-        false
-    };
-    Standing {
-        rank: rank,
-        there: there,
-    }
-}
-
-// Rising currencies with one more at its rank, where there are fewer than eight: each from there on gives its place to the one
-// before it.
-fn inserted(
-    currencies: Currencies,
-    rank: usize, // currencies before it
-    own: Money,
-) -> Currencies
-    requires { ⌜ currencies .count < 8 ⌝ }
-    ensures { λ r. ⌜ r ≡ insertedAt currencies rank own ⌝ }
-{
-    let mut numbers = currencies.numbers;
-    let mut moved: Money = own;
-    let mut i: usize = rank; // currencies
-    while i < 8 {
-        let number: Money = numbers[i];
-        numbers[i] = moved;
-        moved = number;
-        i += 1;
-    }
-    Currencies {
-        count: currencies.count + 1,
-        numbers: numbers,
-    }
-}
-
 // The rule that a row breaks, 0 where it breaks none: 8 there is room for it and for its currency, 9 its code rises, 11 it has a
 // class. `last` is the code above it, 0 where there is none.
 fn broken(
@@ -306,7 +243,7 @@ fn with_ranks(
     let mut i: usize = 0; // rows
     while i < count {
         let mut security = ranked_rows[i];
-        let standing = ranked(&numbers, currencies.count, money[i]);
+        let standing = tables::ranked(&numbers, currencies.count, money[i]);
         security.currency = standing.rank as u32;
         ranked_rows[i] = security;
         i += 1;
@@ -360,7 +297,7 @@ pub fn security_section(
             return refused(security_number(read), count);
         };
         let above = currencies.numbers;
-        let standing = ranked(&above, currencies.count, row.currency);
+        let standing = tables::ranked(&above, currencies.count, row.currency);
         let class = class_of(
             &kinds,
             &borders,
@@ -384,7 +321,7 @@ pub fn security_section(
         codes[count] = row.number;
         money[count] = row.currency;
         if !standing.there {
-            currencies = inserted(currencies, standing.rank, row.currency);
+            currencies = tables::inserted(currencies, standing.rank, row.currency);
         }
         last = row.number;
         count += 1;

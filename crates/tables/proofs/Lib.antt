@@ -2,3 +2,4 @@ pub mod Padded
 pub mod Numbers
 pub mod Backs
 pub mod Places
+mod Codes

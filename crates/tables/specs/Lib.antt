@@ -2,3 +2,4 @@ pub mod Padded
 pub mod Numbers
 pub mod Held
 pub mod Back
+pub mod Ranks

@@ -2,6 +2,10 @@
 // number and a currency as another, dates as days, and what judging a row found out. Numbers are no wider than their range.
 ghost use mathlib.Core.Path.{_≡_};
 ghost use mathlib.Core.List.{[]};
+ghost use Prim.Native.Nat.{_≤_, _<_};
+ghost use lib.ListN.{take};
+ghost use Rattle.tables.specs.Numbers.{numberPlace};
+ghost use Rattle.tables.specs.Ranks.{Searchable, rankedOf, insertedAt};
 ghost use Rattle.tables.specs.Held.{noClass, noPriority, noSecurity, noTrade, noTables, classTable, priorityTable, currencyTable, securityTable, tradeTable, heldTables};
 
 pub type Code = u64; // a code as one number, which orders as its bytes do
@@ -41,6 +45,12 @@ pub struct Priorities {
 pub struct Currencies {
     pub count: usize, // currencies
     pub numbers: [Money; 8],
+}
+
+// Where a currency stands among the rising ones, or would stand.
+pub struct Standing {
+    pub rank: usize, // currencies before it
+    pub there: bool,
 }
 
 // What valuing asks of an S row, with its class and the place of its currency among the rising ones.
@@ -197,5 +207,101 @@ pub fn no_tables() -> Tables
         priorities: no_priorities(),
         securities: no_securities(),
         trades: no_trades(),
+    }
+}
+
+// ---- where a code or a currency stands
+
+// The place of a code among rising ones, by quarters; as many as there are where it is not there. Four turns, whatever the
+// count: the compiler makes them one after the other, without a branch that could be guessed wrong, and the three codes of a
+// turn are looked at side by side.
+pub fn find(
+    codes: &[Code; 256],
+    count: usize, // codes
+    code: Code,
+) -> usize
+    requires { ⌜ (count ≤ 200) × Searchable (now codes) count ⌝ }
+    ensures { λ r. ⌜ r ≡ numberPlace (take count (now (codes .entry))) code ⌝ }
+{
+    let codes: &[Code] = codes; // as a slice: a proof is told its length
+    let mut low: usize = 0; // the codes before it are below the code
+    let mut size: usize = 256; // codes from there on, among which the first that is not below it stands
+    while 1 < size {
+        let part = size / 4; // codes
+        let first = if codes[low + part - 1] < code {
+            part
+        } else {
+            0
+        }; // codes
+        let second = if codes[low + 2 * part - 1] < code {
+            part
+        } else {
+            0
+        }; // codes
+        let third = if codes[low + 3 * part - 1] < code {
+            part
+        } else {
+            0
+        }; // codes
+        low += first + second + third;
+        size = part;
+    }
+    if codes[low] == code { low } else { count }
+}
+
+// Where a currency stands among rising ones: behind those that come before it. Eight turns, whatever they are: no branch depends
+// on them, since one that is guessed wrong costs more than the few steps left.
+pub fn ranked(
+    numbers: &[Money; 8],
+    count: usize, // currencies
+    own: Money,
+) -> Standing
+    requires { ⌜ count ≤ 8 ⌝ }
+    ensures { λ r. ⌜ r ≡ rankedOf (take count (now (numbers .entry))) own ⌝ }
+{
+    let numbers: &[Money] = numbers; // as a slice: a proof is told its length
+    let mut rank: usize = 0; // currencies before it
+    let mut more: usize = 1; // 1 while all so far come before it, then 0
+    let mut i: usize = 0; // currencies
+    while i < 8 {
+        let number = if i < count { numbers[i] } else { own };
+        let next = if number < own { more } else { 0 };
+        rank += next;
+        more = next;
+        i += 1;
+    }
+    let there = if rank < count {
+        numbers[rank] == own
+    } else {
+        false
+    };
+    Standing {
+        rank: rank,
+        there: there,
+    }
+}
+
+// Rising currencies with one more at its rank, where there are fewer than eight: each from there on gives its place to the one
+// before it.
+pub fn inserted(
+    currencies: Currencies,
+    rank: usize, // currencies before it
+    own: Money,
+) -> Currencies
+    requires { ⌜ currencies .count < 8 ⌝ }
+    ensures { λ r. ⌜ r ≡ insertedAt currencies rank own ⌝ }
+{
+    let mut numbers = currencies.numbers;
+    let mut moved: Money = own;
+    let mut i: usize = rank; // currencies
+    while i < 8 {
+        let number: Money = numbers[i];
+        numbers[i] = moved;
+        moved = number;
+        i += 1;
+    }
+    Currencies {
+        count: currencies.count + 1,
+        numbers: numbers,
     }
 }

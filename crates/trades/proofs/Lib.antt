@@ -1,4 +1,3 @@
-pub mod Codes
 pub mod Row
 pub mod Tables
 pub mod Turns

@@ -26,7 +26,8 @@ use Rattle.tables.specs.Held.{noSecurity, heldSecurity, codesOf, securityTable}
 use Rattle.tables.proofs.Numbers.{code-number-low, code-number-same}
 use Rattle.tables.proofs.Padded.{table-front}
 use Rattle.tables.proofs.Places.{Rises, no-more, one-more, codes-rise}
-use Rattle.trades.specs.Found.{Searchable, periodIn}
+use Rattle.tables.specs.Ranks.{Searchable}
+use Rattle.trades.specs.Found.{periodIn}
 
 -- The row of a code, at the place of its number
 data Sought (rs : List SecurityRow) (c : Code) (place : ℕ) : Type 0 where

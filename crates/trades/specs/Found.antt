@@ -16,12 +16,6 @@ use Rattle.tables.specs.declared.Securities.{Securities}
 use Rattle.tables.specs.declared.Trade.{Trade}
 use Rattle.trades.specs.declared.TradeRow.{TradeRow}
 
--- The first so many of 256 codes rise, below the highest number, which stands behind them
-pub record Searchable (codes : List ℕ) (count : ℕ) : Type 0 where
-  pub rise : (i j : ℕ) → i < j → j < count → getD codes i 0 < getD codes j 0
-  pub low : (i : ℕ) → i < count → getD codes i 0 < highest
-  pub rest : (i : ℕ) → count ≤ i → i < 256 → getD codes i 0 ≡ highest
-
 -- The coupon period of a security
 abbrev pub periodOf : Security → Period
 periodOf s = record { previous = s .previous; next = s .next }

@@ -20,9 +20,9 @@ ghost use Rattle.paper.specs.Refusals.{refused, tradeKind};
 ghost use Rattle.paper.specs.Text.{lines};
 ghost use Rattle.paper.specs.Sheet.{section};
 ghost use Rattle.places.specs.Places.{endedLength};
-ghost use Rattle.tables.specs.Numbers.{numberPlace};
 ghost use Rattle.trades.specs.Read.{takenOf, tradeRead, readNumber};
-ghost use Rattle.trades.specs.Found.{Searchable, periodIn, marginedOn, periodHolds, brokenOf, Small, tradeOf};
+ghost use Rattle.tables.specs.Ranks.{Searchable};
+ghost use Rattle.trades.specs.Found.{periodIn, marginedOn, periodHolds, brokenOf, Small, tradeOf};
 ghost use Rattle.trades.specs.Section.{tradeSection};
 
 // A T row.
@@ -148,43 +148,6 @@ fn trade_number(read: TradeRead) -> Number
     }
 }
 
-// The place of a code among rising ones, by quarters; as many as there are where it is not there. Four turns, whatever the
-// count: the compiler makes them one after the other, without a branch that could be guessed wrong, and the three codes of a
-// turn are looked at side by side.
-fn find(
-    codes: &[Code; 256],
-    count: usize, // codes
-    code: Code,
-) -> usize
-    requires { ⌜ (count ≤ 200) × Searchable (now codes) count ⌝ }
-    ensures { λ r. ⌜ r ≡ numberPlace (take count (now (codes .entry))) code ⌝ }
-{
-    let codes: &[Code] = codes; // as a slice: a proof is told its length
-    let mut low: usize = 0; // the codes before it are below the code
-    let mut size: usize = 256; // codes from there on, among which the first that is not below it stands
-    while 1 < size {
-        let part = size / 4; // codes
-        let first = if codes[low + part - 1] < code {
-            part
-        } else {
-            0
-        }; // codes
-        let second = if codes[low + 2 * part - 1] < code {
-            part
-        } else {
-            0
-        }; // codes
-        let third = if codes[low + 3 * part - 1] < code {
-            part
-        } else {
-            0
-        }; // codes
-        low += first + second + third;
-        size = part;
-    }
-    if codes[low] == code { low } else { count }
-}
-
 // The place of a security that is there; else the first, which is one of the table too.
 fn place_or_first(
     there: bool,
@@ -300,7 +263,7 @@ pub fn trade_section(
         let TradeRead::Row(row, next) = read else {
             return refused(trade_number(read), count);
         };
-        let place = find(&codes, securities.count, row.number); // of its security
+        let place = tables::find(&codes, securities.count, row.number); // of its security
         let there = place < securities.count;
         let known = place_or_first(there, place);
         let cash = row.trade == 1;

@@ -15,7 +15,7 @@ use Rattle.sections.proofs.Loops.{goes-before}
 use Rattle.securities.specs.Read.{securityNumber}
 use Rattle.securities.specs.Classes.{classIn}
 use Rattle.securities.specs.declared.Columns.{Columns}
-use Rattle.securities.specs.declared.Standing.{Standing}
+use Rattle.tables.specs.declared.Standing.{Standing}
 use Rattle.securities.specs.Section.{brokenOf, securitySection}
 use Rattle.sections.proofs.Rooms.{turn-refused}
 use Rattle.securities.proofs.Turns.{room, Turn, turn-start, classFor, Read, turn-row}

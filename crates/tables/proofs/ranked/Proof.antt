@@ -1,4 +1,4 @@
--- `securities::ranked` meets its contract. The loop's invariant: the currencies before `rank` come before the one looked for, and
+-- `tables::ranked` meets its contract. The loop's invariant: the currencies before `rank` come before the one looked for, and
 -- either all so far do, or the one at `rank` does not. The measure is the turns left.
 use Prim.Native.Nat.{ℕ, zero, suc, _+_, _-_, _≤_, _<_}
 use native.Mathlib.Nat.{add-zero, eq-or-lt-of-le}
@@ -11,10 +11,10 @@ use borrow.Author.Tests.{ne-eqb, lt-ltb, le-ltb}
 use lib.Dec.{eqb}
 use lib.ListN.{length, getD, take}
 use lib.Seq.{getD-take, length-take-le}
-use Rattle.securities.specs.Ranks.{rankedOf}
-use Rattle.securities.specs.declared.Standing.{Standing}
-use Rattle.securities.proofs.ranked.Statement.{statement}
-use Rattle.securities.proofs.ranked.Tie as tie
+use Rattle.tables.specs.Ranks.{rankedOf}
+use Rattle.tables.specs.declared.Standing.{Standing}
+use Rattle.tables.proofs.ranked.Statement.{statement}
+use Rattle.tables.proofs.ranked.Tie as tie
 
 module _ (own : ℕ) where
   -- Behind those that are below it, and before one that is not, whether that one is it decides

@@ -1,13 +1,13 @@
--- `trades::find` meets its contract. The loop's invariant: all codes before `low` are below the code, and none is from the last of
+-- `tables::find` meets its contract. The loop's invariant: all codes before `low` are below the code, and none is from the last of
 -- the next `size` on, of which there are a power of four. The measure is `size`.
 use Prim.Native.Nat.{ℕ, suc, _+_, _*_, _/_, _≤_, _<_}
 use native.Mathlib.Omega.{arith}
 use mathlib.Core.Logic.{inl, inr, ⊎-elim}
 use mathlib.Core.Path.{_≡_, refl}
 use lib.ListN.{length}
-use Rattle.trades.proofs.Codes.{Below, Above, none-above, quarters, found, missing}
-use Rattle.trades.proofs.find.Statement.{statement}
-use Rattle.trades.proofs.find.Tie as tie
+use Rattle.tables.proofs.Codes.{Below, Above, none-above, quarters, found, missing}
+use Rattle.tables.proofs.find.Statement.{statement}
+use Rattle.tables.proofs.find.Tie as tie
 
 -- The sizes that the turns come by
 data Sized : ℕ → Type 0 where

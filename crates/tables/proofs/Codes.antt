@@ -9,8 +9,8 @@ use mathlib.Core.Path.{_≡_, sym, ap, _∙_}
 use borrow.Author.Tests.{eq-eqb, ne-eqb}
 use lib.ListN.{length, getD, take, drop}
 use lib.Seq.{drop-cons, drop-length, length-take-le, getD-take}
 use Rattle.tables.specs.Numbers.{highest, numberPlace}
-use Rattle.trades.specs.Found.{Searchable}
+use Rattle.tables.specs.Ranks.{Searchable}
 
 -- Numbers that are not the one looked for are passed
 passed : (code : ℕ) (ms : List ℕ) (n : ℕ) → n ≤ length ms → ((k : ℕ) → k < n → getD ms k 0 ≡ code → ⊥)

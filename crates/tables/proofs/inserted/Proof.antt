@@ -1,4 +1,4 @@
--- `securities::inserted` meets its contract. The loop's invariant: putting what is moved in at `i` gives what is to be given. The
+-- `tables::inserted` meets its contract. The loop's invariant: putting what is moved in at `i` gives what is to be given. The
 -- measure is the places left.
 use Prim.Native.Nat.{ℕ, zero, suc, _+_, _-_, _≤_}
 use native.Mathlib.Numerals.{add-one}
@@ -6,9 +6,9 @@ use native.Mathlib.Omega.{arith}
 use mathlib.Core.List.{List, [], _∷_}
 use mathlib.Core.Path.{_≡_, refl, sym, ap, ap₂, _∙_}
 use lib.ListN.{length, getD, set, length-set, length-map}
-use Rattle.securities.specs.Ranks.{putIn}
-use Rattle.securities.proofs.inserted.Statement.{statement}
-use Rattle.securities.proofs.inserted.Tie as tie
+use Rattle.tables.specs.Ranks.{putIn}
+use Rattle.tables.proofs.inserted.Statement.{statement}
+use Rattle.tables.proofs.inserted.Tie as tie
 
 -- The one that stood there is moved on
 moved-on : (ns : List ℕ) (i own : ℕ) → putIn i own ns ≡ putIn (i + 1) (getD ns i 0) (set ns i own)
