@@ -42,8 +42,9 @@ use Rattle.fields.proofs.date_at.Reads as fields-date-at
 use Rattle.fields.proofs.day_at.Reads as fields-day-at
 use Rattle.fields.proofs.kind_at.Reads as fields-kind-at
 use Rattle.fields.proofs.letter_at.Reads as fields-letter-at
-use Rattle.fields.proofs.code_at.Reads as fields-code-at
-use Rattle.fields.proofs.currency_at.Reads as fields-currency-at
+use Rattle.codes.proofs.is_within.Reads as codes-is-within
+use Rattle.codes.proofs.code_at.Reads as codes-code-at
+use Rattle.codes.proofs.currency_at.Reads as codes-currency-at
 use Rattle.places.proofs.is_blank.Reads as places-is-blank
 use Rattle.fields.proofs.is_read.Reads as fields-is-read
 use Rattle.fields.proofs.is_rate.Reads as fields-is-rate
@@ -179,11 +180,14 @@ fields-kind-at-fixed κs a x y s u p q = one p q
 pub fields-letter-at-fixed : Fixes fields-letter-at.Post
 fields-letter-at-fixed κs a x y s u p q = one p q
 
-pub fields-code-at-fixed : Fixes fields-code-at.Post
-fields-code-at-fixed κs a x y s u p q = one p q
+pub codes-is-within-fixed : Fixes codes-is-within.Post
+codes-is-within-fixed κs a x y s u p q = one p q
 
-pub fields-currency-at-fixed : Fixes fields-currency-at.Post
-fields-currency-at-fixed κs a x y s u p q = one p q
+pub codes-code-at-fixed : Fixes codes-code-at.Post
+codes-code-at-fixed κs a x y s u p q = one p q
+
+pub codes-currency-at-fixed : Fixes codes-currency-at.Post
+codes-currency-at-fixed κs a x y s u p q = one p q
 
 pub places-is-blank-fixed : Fixes places-is-blank.Post
 places-is-blank-fixed κs a x y s u p q = one p q

@@ -9,7 +9,7 @@ use lib.Seq.{slice, length-slice}
 use Rattle.paper.specs.Units.{Byte, Text}
 use Rattle.paper.specs.Text.{same}
 use Rattle.paper.proofs.Order.{same-true}
-use Rattle.fields.proofs.Parts.{part-one}
+use Rattle.places.proofs.Parts.{part-one}
 
 -- Texts of two sizes are not the same
 sizes-apart : (s t : Text) → (length s ≡ length t → ⊥) → same s t ≡ false

@@ -1,4 +1,2 @@
-pub mod Parts
 pub mod Readings
 pub mod Letters
-pub mod Checks

@@ -18,7 +18,8 @@ use Rattle.paper.proofs.Lists.{bind-some, when-some, bounds}
 use Rattle.paper.proofs.Days.{day-below}
 use Rattle.tables.specs.Numbers.{kindNumber, tradeNumber, sideNumber, codeNumber, currencyNumber, highest}
 use Rattle.tables.proofs.Numbers.{kind-below, trade-most, side-most, code-number-low, currency-number-low}
-use Rattle.fields.specs.Values.{orHighest, signedOr, isRead, isSignedRead, rangedIn, rateIn, durationIn, letterIn, codeOr, currencyOr}
+use Rattle.codes.specs.Counts.{codeOr, currencyOr}
+use Rattle.fields.specs.Values.{orHighest, signedOr, isRead, isSignedRead, rangedIn, rateIn, durationIn, letterIn}
 
 -- Nothing is there only where its test fails
 pub when-none : {A : Type 0} (b : Bool) (a : A) → when b a ≡ none → b ≡ false

@@ -17,7 +17,8 @@ use Rattle.paper.specs.Rows.{field, kindIn, readSecurity}
 use Rattle.paper.specs.Refusals.{isDuration, follows, securityFields, securityKind}
 use Rattle.tables.specs.Numbers.{kindNumber, codeNumber, currencyNumber, highest}
 use Rattle.places.specs.Places.{Place, lineAt, fieldText}
-use Rattle.fields.specs.Values.{orHighest, isRead, rangedIn, durationIn, codeOr, currencyOr}
+use Rattle.codes.specs.Counts.{codeOr, currencyOr}
+use Rattle.fields.specs.Values.{orHighest, isRead, rangedIn, durationIn}
 use Rattle.places.specs.declared.Line.{Line}
 use Rattle.fields.proofs.Readings.{kind-read, code-read, currency-read}
 use Rattle.sections.specs.Sections.{fieldsAt}

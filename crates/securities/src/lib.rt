@@ -86,8 +86,8 @@ fn security_row(s: &[u8], years: &[Day; 400], at: Place, end: Place) -> Security
         return SecurityRead::Refused(5);
     }
     let ends = line.ends;
-    let number = fields::code_at(s, &ends, 0); // of the code
-    let currency = fields::currency_at(s, &ends, 1); // by its number
+    let number = codes::code_at(s, &ends, 0); // of the code
+    let currency = codes::currency_at(s, &ends, 1); // by its number
     let kind = fields::kind_at(s, &ends, 2); // by its number
     let duration = fields::duration_at(s, &ends, 3, kind < 2); // ten-thousandths of a year
     let price = fields::number_at(s, &ends, 4, 1, 20_000_000); // hundred-thousandths of a percent

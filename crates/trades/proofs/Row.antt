@@ -17,7 +17,8 @@ use Rattle.paper.specs.Rows.{Trade, repo, cash, Side, field, tradeIn, sideIn, r
 use Rattle.paper.specs.Refusals.{isRate, isTerm, tradeDates, tradeKind}
 use Rattle.tables.specs.Numbers.{tradeNumber, sideNumber, codeNumber, highest}
 use Rattle.places.specs.Places.{Place, lineAt, fieldText}
-use Rattle.fields.specs.Values.{orHighest, signedOr, isRead, isSignedRead, rangedIn, rateIn, letterIn, codeOr}
+use Rattle.codes.specs.Counts.{codeOr}
+use Rattle.fields.specs.Values.{orHighest, signedOr, isRead, isSignedRead, rangedIn, rateIn, letterIn}
 use Rattle.places.specs.declared.Line.{Line}
 use Rattle.fields.proofs.Readings.{day-read, rate-read, trade-read, side-read, code-read, trade-letter, side-letter}
 use Rattle.sections.specs.Sections.{fieldsAt}

@@ -103,7 +103,7 @@ fn trade_row(s: &[u8], years: &[Day; 400], at: Place, end: Place) -> TradeRead
     let code: Place = ends[2] + 1;
     let trade = fields::letter_at(s, &ends, 0, 82, 67); // 0 repo, 1 cash
     let side = fields::letter_at(s, &ends, 1, 83, 80); // 0 seller, 1 purchaser
-    let number = fields::code_at(s, &ends, 2); // of the code
+    let number = codes::code_at(s, &ends, 2); // of the code
     let nominal = fields::number_at(s, &ends, 3, 1, 100_000_000); // whole units
     let amount = fields::number_at(s, &ends, 4, 1, 30_000_000_000); // cents
     let first = fields::day_at(s, years, &ends, 5);

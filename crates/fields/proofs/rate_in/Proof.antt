@@ -21,7 +21,7 @@ use Rattle.paper.proofs.Sizes.{size-neg}
 use Rattle.whole.proofs.Signs.{read-back}
 use Rattle.tables.specs.Numbers.{highest}
 use Rattle.fields.specs.Values.{orHighest, signedOr, rangedIn, rateIn}
-use Rattle.fields.proofs.Parts.{part-step, part-empty}
+use Rattle.places.proofs.Parts.{part-step, part-empty}
 use Rattle.fields.proofs.Readings.{read-some, ranged-bounds}
 use Rattle.fields.proofs.rate_in.Statement.{statement}
 use Rattle.fields.proofs.rate_in.Tie as tie

@@ -9,7 +9,7 @@ use lib.Dec.{eqb, leb}
 use lib.ListN.{length, getD, take}
 use lib.Seq.{slice}
 use Rattle.paper.specs.Units.{Class, Duration}
-use Rattle.fields.proofs.Parts.{part-step, part-empty}
+use Rattle.places.proofs.Parts.{part-step, part-empty}
 use Rattle.securities.specs.Classes.{classIn}
 use Rattle.securities.proofs.class_of.Statement.{statement}
 use Rattle.securities.proofs.class_of.Tie as tie

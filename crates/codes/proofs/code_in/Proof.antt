@@ -1,4 +1,4 @@
--- `fields::code_in` meets its contract: the field's size decides first, then its two letters, and then all that is left.
+-- `codes::code_in` meets its contract: the field's size decides first, then its two letters, and then all that is left.
 use Prim.Native.Nat.{ℕ, _+_, _≤_}
 use native.Mathlib.Omega.{arith}
 use mathlib.Core.Bool.{true, _&&_, and-true}
@@ -13,11 +13,11 @@ use Rattle.paper.specs.Lists.{every}
 use Rattle.paper.specs.Text.{isLetter}
 use Rattle.paper.proofs.Lists.{every-step}
 use Rattle.places.specs.Places.{Place}
-use Rattle.fields.specs.Values.{countsTable, checkedOr}
-use Rattle.fields.proofs.Parts.{part-step, part-sized, part-unsized}
-use Rattle.fields.proofs.Checks.{code-unsized, code-unlettered, code-rest}
-use Rattle.fields.proofs.code_in.Statement.{statement}
-use Rattle.fields.proofs.code_in.Tie as tie
+use Rattle.codes.specs.Counts.{countsTable, checkedOr}
+use Rattle.places.proofs.Parts.{part-step, part-sized, part-unsized}
+use Rattle.codes.proofs.Checks.{code-unsized, code-unlettered, code-rest}
+use Rattle.codes.proofs.code_in.Statement.{statement}
+use Rattle.codes.proofs.code_in.Tie as tie
 
 -- Whether the first two bytes of a field are letters
 two-letters : (s : Text) (at end : ℕ) → end ≤ length s → at + 2 ≤ end

@@ -1,4 +1,4 @@
--- `fields::currency_in` meets its contract: the field's size decides first, and then its letters.
+-- `codes::currency_in` meets its contract: the field's size decides first, and then its letters.
 use Prim.Native.Nat.{ℕ, _+_, _-_, _≤_}
 use native.Mathlib.Nat.{add-assoc}
 use native.Mathlib.Omega.{arith}
@@ -12,10 +12,10 @@ use Rattle.paper.specs.Units.{Byte, Text}
 use Rattle.paper.specs.Text.{isLetter}
 use Rattle.paper.proofs.Lists.{both, bounds, every-step}
 use Rattle.tables.specs.Numbers.{currencyNumber, highest}
-use Rattle.fields.specs.Values.{currencyOr}
-use Rattle.fields.proofs.Parts.{part-step, part-one, part-unsized}
-use Rattle.fields.proofs.currency_in.Statement.{statement}
-use Rattle.fields.proofs.currency_in.Tie as tie
+use Rattle.codes.specs.Counts.{currencyOr}
+use Rattle.places.proofs.Parts.{part-step, part-one, part-unsized}
+use Rattle.codes.proofs.currency_in.Statement.{statement}
+use Rattle.codes.proofs.currency_in.Tie as tie
 
 -- Whether three bytes are letters
 abbrev letters : Byte → Byte → Byte → Bool

@@ -1,4 +1,4 @@
--- `fields::checked_number` meets its contract. The loop's invariant: the bytes that are left, read on from the number and the
+-- `codes::checked_number` meets its contract. The loop's invariant: the bytes that are left, read on from the number and the
 -- two sums so far, give the answer. The number is below a power of 43, and no sum above 18 for each byte, so that nothing
 -- overflows. The measure is the bytes left.
 use Prim.Native.Nat.{ℕ, _+_, _-_, _*_, _/_, _%_, _^_, _≤_, _<_}
@@ -15,11 +15,11 @@ use Rattle.paper.specs.Units.{Byte}
 use Rattle.paper.specs.Lists.{between}
 use Rattle.paper.specs.Text.{isDigit, isLetter}
 use Rattle.paper.proofs.Lists.{never, bounds}
-use Rattle.fields.specs.Values.{byteCounts, checkedOr}
+use Rattle.codes.specs.Counts.{byteCounts, checkedOr}
 use Rattle.tables.proofs.Numbers.{mixed-within}
-use Rattle.fields.proofs.Checks.{mixed, table-at, Its, Judged, none, some, judged, Read, Moved, room, start, stopped, next, ended}
-use Rattle.fields.proofs.checked_number.Statement.{statement}
-use Rattle.fields.proofs.checked_number.Tie as tie
+use Rattle.codes.proofs.Checks.{mixed, table-at, Its, Judged, none, some, judged, Read, Moved, room, start, stopped, next, ended}
+use Rattle.codes.proofs.checked_number.Statement.{statement}
+use Rattle.codes.proofs.checked_number.Tie as tie
 
 abbrev Inv-loop : tie.InvT-loop
 Inv-loop s at table n₀ counts₀ i₀ n counts i = Read s at n counts i

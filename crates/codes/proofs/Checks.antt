@@ -16,8 +16,8 @@ use Rattle.paper.specs.Text.{isDigit, isLetter, inDigits, counted, hasCodeForm,
 use Rattle.paper.proofs.Lists.{bounds, every-cons}
 use Rattle.paper.proofs.Codes.{fromEnd, from-end-append, digit-letter}
 use Rattle.tables.specs.Numbers.{bytesFrom}
-use Rattle.fields.specs.Values.{byteCounts, byteCountsFrom, countsTable, checkedOr, codeOr}
-use Rattle.fields.proofs.Parts.{part-step}
+use Rattle.codes.specs.Counts.{byteCounts, byteCountsFrom, countsTable, checkedOr, codeOr}
+use Rattle.places.proofs.Parts.{part-step}
 
 -- A byte that a code may have before its last
 abbrev pub mixed : Byte → Bool
