@@ -86,6 +86,7 @@ fn security_row(s: &[u8], years: &[Day; 400], at: Place, end: Place) -> Security
         return SecurityRead::Refused(5);
     }
     let ends = line.ends;
+    let code: Place = ends[0] + 1;
     let number = codes::code_at(s, &ends, 0); // of the code
     let currency = codes::currency_at(s, &ends, 1); // by its number
     let kind = fields::kind_at(s, &ends, 2); // by its number
@@ -105,7 +106,7 @@ fn security_row(s: &[u8], years: &[Day; 400], at: Place, end: Place) -> Security
         & (payments != 3);
     let seven = days::follows(previous, next, 400);
     let row = SecurityRow {
-        code: ends[0] + 1,
+        code: code,
         number: number,
         currency: currency,
         kind: kind,

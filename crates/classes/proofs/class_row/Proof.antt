@@ -1,9 +1,10 @@
 -- `classes::class_row` meets its contract: its four fields are read, and then joined.
+use Prim.Native.Nat.{ℕ, _+_, _<_}
 use native.Mathlib.Omega.{arith}
 use mathlib.Core.Path.{sym, _∙_}
 use borrow.Author.Needs.{needs}
 use Rattle.paper.specs.Refusals.{classKind}
-use Rattle.places.specs.Places.{lineAt}
+use Rattle.places.specs.Places.{lineAt, Stands}
 use Rattle.tables.specs.Held.{heldClass}
 use Rattle.sections.specs.Sections.{fieldsAt}
 use Rattle.sections.proofs.Reading.{Lined, line-asked, counted, lined, not-many}
@@ -27,17 +28,8 @@ its-line c =
     let e = c .before .before .before .before in
     lined (e .args .s .now) (e .args .at) (e .args .end) (e .pre .0) (e .pre .1) (c .before .before .line-at .result) (c .before .before .line-at .ensures) 5 (omega arith) (c .if1 .left)
 
-number-at-requires : tie.Need-number-at-requires
-number-at-requires c κs = its-line (c .before .before) .stands 0 (omega arith)
-
-kind-at-requires : tie.Need-kind-at-requires
-kind-at-requires c κs = its-line (c .before .before .before .before) .stands 1 (omega arith)
-
-duration-at-requires : tie.Need-duration-at-requires
-duration-at-requires c κs = its-line (c .before .before .before .before .before .before) .stands 2 (omega arith)
-
-number-at-requires-2 : tie.Need-number-at-requires-2
-number-at-requires-2 c κs = its-line (c .before .before .before .before .before .before .before .before) .stands 3 (omega arith)
+standing : (c : tie.Else1) (k : ℕ) → k + 1 < 5 → Stands (c .before .before .before .before .args .s .now) (c .before .before .line-at .result .ends) k
+standing c k h = its-line c .stands k h
 
 -- Back from where all are read, field by field
 returns-2 : tie.Need-returns-2
@@ -58,10 +50,10 @@ class-row-spec =
     (tie.spec
     line-at-requires
     returns
-    number-at-requires
-    kind-at-requires
-    duration-at-requires
-    number-at-requires-2
+    (λ c κs. search (standing, needs))
+    (λ c κs. search (standing, needs))
+    (λ c κs. search (standing, needs))
+    (λ c κs. search (standing, needs))
     (λ c κs. search needs)
     (λ c κs. search needs)
     (λ c κs. search needs)

@@ -1,10 +1,11 @@
 -- `priorities::priority_row` meets its contract: its three fields are read, and then joined.
+use Prim.Native.Nat.{ℕ, _+_, _<_}
 use native.Mathlib.Omega.{arith}
 use mathlib.Core.Path.{sym, _∙_}
 use borrow.Author.Needs.{needs}
 use mathlib.Core.List.{[]}
 use Rattle.paper.specs.Refusals.{priorityKind}
-use Rattle.places.specs.Places.{lineAt}
+use Rattle.places.specs.Places.{lineAt, Stands}
 use Rattle.tables.specs.Held.{heldPriority}
 use Rattle.sections.specs.Sections.{fieldsAt}
 use Rattle.sections.proofs.Reading.{Lined, line-asked, counted, lined, not-many}
@@ -28,14 +29,8 @@ its-line c =
     let e = c .before .before .before .before in
     lined (e .args .s .now) (e .args .at) (e .args .end) (e .pre .0) (e .pre .1) (c .before .before .line-at .result) (c .before .before .line-at .ensures) 4 (omega arith) (c .if1 .left)
 
-number-at-requires : tie.Need-number-at-requires
-number-at-requires c κs = its-line (c .before .before) .stands 0 (omega arith)
-
-number-at-requires-2 : tie.Need-number-at-requires-2
-number-at-requires-2 c κs = its-line (c .before .before .before .before) .stands 1 (omega arith)
-
-number-at-requires-3 : tie.Need-number-at-requires-3
-number-at-requires-3 c κs = its-line (c .before .before .before .before .before .before) .stands 2 (omega arith)
+standing : (c : tie.Else1) (k : ℕ) → k + 1 < 4 → Stands (c .before .before .before .before .args .s .now) (c .before .before .line-at .result .ends) k
+standing c k h = its-line c .stands k h
 
 -- Back from where all are read, field by field
 returns-2 : tie.Need-returns-2
@@ -55,9 +50,9 @@ priority-row-spec =
     (tie.spec
     line-at-requires
     returns
-    number-at-requires
-    number-at-requires-2
-    number-at-requires-3
+    (λ c κs. search (standing, needs))
+    (λ c κs. search (standing, needs))
+    (λ c κs. search (standing, needs))
     (λ c κs. search needs)
     (λ c κs. search needs)
     (λ c κs. search needs)

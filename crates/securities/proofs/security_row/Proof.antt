@@ -1,10 +1,12 @@
 -- `securities::security_row` meets its contract: its nine fields are read, and then joined.
+use Prim.Native.Nat.{ℕ, _+_, _<_}
 use native.Mathlib.Omega.{arith}
 use mathlib.Core.List.{[]}
-use mathlib.Core.Path.{sym, _∙_}
+use mathlib.Core.Path.{_≡_, sym, _∙_}
 use borrow.Author.Needs.{needs}
+use Rattle.paper.specs.Days.{newYears}
 use Rattle.paper.specs.Refusals.{securityKind}
-use Rattle.places.specs.Places.{lineAt}
+use Rattle.places.specs.Places.{lineAt, Stands}
 use Rattle.sections.specs.Sections.{fieldsAt}
 use Rattle.sections.proofs.Reading.{Lined, line-asked, counted, lined, not-many}
 use Rattle.securities.specs.Read.{heldRow}
@@ -30,66 +32,17 @@ its-line c =
     let e = c .before .before .before .before in
     lined (e .args .s .now) (e .args .at) (e .args .end) (e .pre .0) (e .pre .1) (c .before .before .line-at .result) (c .before .before .line-at .ensures) 10 (omega arith) (c .if1 .left)
 
-code-at-requires : tie.Need-code-at-requires
-code-at-requires c κs = its-line (c .before .before) .stands 0 (omega arith)
+standing : (c : tie.Else1) (k : ℕ) → k + 1 < 10 → Stands (c .before .before .before .before .args .s .now) (c .before .before .line-at .result .ends) k
+standing c k h = its-line c .stands k h
 
--- Back to the line from where each field is read
-abbrev at-code : tie.After-code-at → tie.Else1
-at-code c = c .before .before .before
-
-currency-at-requires : tie.Need-currency-at-requires
-currency-at-requires c κs = its-line (at-code (c .before)) .stands 1 (omega arith)
-
-abbrev at-currency : tie.After-currency-at → tie.Else1
-at-currency c = at-code (c .before .before)
-
-kind-at-requires : tie.Need-kind-at-requires
-kind-at-requires c κs = its-line (at-currency (c .before)) .stands 2 (omega arith)
-
-abbrev at-kind : tie.After-kind-at → tie.Else1
-at-kind c = at-currency (c .before .before)
-
-duration-at-requires : tie.Need-duration-at-requires
-duration-at-requires c κs = its-line (at-kind (c .before)) .stands 3 (omega arith)
-
-abbrev at-duration : tie.After-duration-at → tie.Else1
-at-duration c = at-kind (c .before .before)
-
-number-at-requires : tie.Need-number-at-requires
-number-at-requires c κs = its-line (at-duration (c .before)) .stands 4 (omega arith)
-
-abbrev at-price : tie.After-number-at → tie.Else1
-at-price c = at-duration (c .before .before)
-
-number-at-requires-2 : tie.Need-number-at-requires-2
-number-at-requires-2 c κs = its-line (at-price (c .before)) .stands 5 (omega arith)
-
-abbrev at-coupon : tie.After-number-at2 → tie.Else1
-at-coupon c = at-price (c .before .before)
-
-number-at-requires-3 : tie.Need-number-at-requires-3
-number-at-requires-3 c κs = its-line (at-coupon (c .before)) .stands 6 (omega arith)
-
-abbrev at-payments : tie.After-number-at3 → tie.Else1
-at-payments c = at-coupon (c .before .before)
-
-day-at-requires : tie.Need-day-at-requires
-day-at-requires c κs = let l = at-payments (c .before) in (its-line l .stands 7 (omega arith), l .before .before .before .before .pre .2)
-
-abbrev at-previous : tie.After-day-at → tie.Else1
-at-previous c = at-payments (c .before .before)
-
-day-at-requires-2 : tie.Need-day-at-requires-2
-day-at-requires-2 c κs = let l = at-previous (c .before) in (its-line l .stands 8 (omega arith), l .before .before .before .before .pre .2)
-
-abbrev at-next : tie.After-day-at2 → tie.Else1
-at-next c = at-previous (c .before .before)
-
-add-t45 : tie.Need-add-t45
-add-t45 c =
-    let l = at-next (c .before .before .before .before .before .before .before .before) in
-    let f = its-line l .stands 0 (omega arith) in
-    omega (arith, f .ordered, f .inside, l .before .before .before .shared-slice-known .given 0)
+-- The line, and what is known of the years, from where all fields but the dates are read
+dated : (c : tie.After-number-at3) (k : ℕ) → k + 1 < 10
+    → let l = c .before .before .before .before .before .before .before .before .before .before .before .before .before .before .before in
+    let e = l .before .before .before .before in
+    Stands (e .args .s .now) (l .before .before .line-at .result .ends) k × (e .args .years .now ≡ newYears)
+dated c k h =
+    let l = c .before .before .before .before .before .before .before .before .before .before .before .before .before .before .before in
+    (standing l k h, l .before .before .before .before .pre .2)
 
 -- Back from where all are read, field by field
 returns-2 : tie.Need-returns-2
@@ -112,7 +65,7 @@ returns-2 c =
     let currency = kind .before .before in
     let code = currency .before .before in
     c .taken .ensures
-    ∙ security-there _ _ _ (its-line (at-code code))
+    ∙ security-there _ _ _ (its-line (code .before .before .before))
     (code .code-at .ensures) (currency .currency-at .ensures) (kind .kind-at .ensures) (duration .duration-at .ensures)
     (price .number-at .ensures) (coupon .number-at2 .ensures) (payments .number-at3 .ensures) (previous .day-at .ensures) (next .day-at2 .ensures)
     (code-read .is-read .ensures) (currency-read .is-read2 .ensures) (kind-read .is-read3 .ensures) (duration-read .is-read4 .ensures)
@@ -124,24 +77,24 @@ security-row-spec =
     (tie.spec
     line-at-requires
     returns
-    code-at-requires
-    currency-at-requires
-    kind-at-requires
-    duration-at-requires
-    number-at-requires
-    number-at-requires-2
-    number-at-requires-3
-    day-at-requires
-    day-at-requires-2
-    (λ c κs. search needs)
-    (λ c κs. search needs)
-    (λ c κs. search needs)
-    (λ c κs. search needs)
-    (λ c κs. search needs)
-    (λ c κs. search needs)
-    (λ c κs. search needs)
-    (λ c κs. search needs)
     (λ c. search needs)
-    add-t45
+    (λ c. omega (arith, standing (c .before) 0 (omega arith) .ordered, standing (c .before) 0 (omega arith) .inside))
+    (λ c κs. search (standing, needs))
+    (λ c κs. search (standing, needs))
+    (λ c κs. search (standing, needs))
+    (λ c κs. search (standing, needs))
+    (λ c κs. search (standing, needs))
+    (λ c κs. search (standing, needs))
+    (λ c κs. search (standing, needs))
+    (λ c κs. dated (c .before) 7 (omega arith))
+    (λ c κs. dated (c .before .before .before) 8 (omega arith))
+    (λ c κs. search needs)
+    (λ c κs. search needs)
+    (λ c κs. search needs)
+    (λ c κs. search needs)
+    (λ c κs. search needs)
+    (λ c κs. search needs)
+    (λ c κs. search needs)
+    (λ c κs. search needs)
     (λ c κs. search needs)
     returns-2)
