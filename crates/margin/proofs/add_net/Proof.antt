@@ -42,7 +42,9 @@ add-short c =
     record { fits = omega (arith, below-within (toZ w64 (ofZ w64 (r .rounded .result))), small r) }
 
 returns : tie.Need-returns
-returns c = let net = net-is (c .before .before .before .before) in (cc net, cc net)
+returns c =
+    let net = net-is (c .before .before .before .before) in
+    (rw (c .before .before .before .above-zero .ensures, net), rw (c .before .below-zero .ensures, net))
 
 pub add-net-spec : {M : Type 1} → statement M
 add-net-spec =

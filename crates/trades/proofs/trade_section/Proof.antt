@@ -2,20 +2,22 @@
 -- `at`. The measure is the bytes left up to `end`.
 use Prim.Native.Nat.{ℕ, _-_, _<_}
 use native.Mathlib.Omega.{arith}
-use mathlib.Core.Bool.{true}
+use mathlib.Core.Bool.{true, cond}
 use mathlib.Core.List.{[]}
 use mathlib.Core.Path.{_≡_, sym, ap, _∙_}
 use borrow.Author.Needs.{needs}
-use lib.Dec.{eqb}
+use lib.Dec.{eqb, ltb}
+use lib.ListN.{getD}
 use Rattle.paper.specs.Rows as paper
 use Rattle.paper.specs.Refusals.{refused}
 use Rattle.places.specs.Places.{Place, endedLength}
+use Rattle.tables.specs.Held.{noSecurity}
 use Rattle.tables.specs.declared.Trade.{Trade}
 use Rattle.tables.specs.declared.Trades.{Trades}
 use Rattle.sections.specs.Sections.{goesOn}
 use Rattle.sections.proofs.Loops.{goes-before}
 use Rattle.trades.specs.Read.{readNumber}
-use Rattle.trades.specs.Found.{tradeOf}
+use Rattle.trades.specs.Found.{periodHolds, brokenOf, tradeOf}
 use Rattle.trades.specs.Section.{tradeSection}
 use Rattle.trades.specs.declared.TradeRow.{TradeRow}
 use Rattle.trades.specs.declared.TradeRead.{TradeRead}
@@ -96,7 +98,9 @@ known : (c : tie.After-place-or-first Inv-loop μ-loop)
     → let r = c .before .before .before .before in
     let a = begin (turn r .before .before) .args in
     c .place-or-first .result ≡ knownOf (a .today) (a .working) (a .securities) (r .before .read .given .0 .0)
-known c = cc
+known c =
+    let a = begin (turn (c .before .before .before .before) .before .before) .args in
+    c .place-or-first .ensures ∙ ap (λ (place : ℕ). cond (ltb place (a .securities .count)) place 0) (c .before .before .find .ensures)
 
 array-copy-out-in-period : tie.Need-array-copy-out-in-period Inv-loop μ-loop
 array-copy-out-in-period c = known-below (c .before .before .before)
@@ -114,7 +118,13 @@ judged : (c : tie.After-broken Inv-loop μ-loop)
     let l = turn r .before .before in
     let a = begin l .args in
     c .broken .result ≡ brokenRow (a .today) (a .working) (a .securities) (l .loop .count) (r .before .read .given .0 .0)
-judged c = cc
+judged c =
+    let j = judging c in
+    let p = j .before .before .before in
+    let l = turn (row j) .before .before in
+    let a = begin l .args in
+    let within = c .before .in-period .ensures ∙ (λ i. periodHolds (j .before .is-margined .ensures i) (j .accrual-day .ensures i) (getD (a .securities .rows) (known p i) noSecurity)) in
+    c .broken .ensures ∙ (λ i. brokenOf (ltb (l .loop .count) 500) (ltb (p .before .before .find .ensures i) (a .securities .count)) (within i))
 
 returns-2 : tie.Need-returns-2 Inv-loop μ-loop
 returns-2 c =
