@@ -24,13 +24,13 @@ pub type Kind = u64; // a kind's number: 0 government, 1 corporate, 2 inflation 
 pub type Duration = u64; // a border, ten-thousandths of a year: 0 for a kind that has none
 
 // A row and where the next line starts, or the row's refusal.
-pub enum ClassRead {
+enum ClassRead {
     Row(ClassRow, Place),
     Refused(Number),
 }
 
 // What the rows above tell.
-pub struct Seen {
+struct Seen {
     pub last: Class, // of the row above; 0 where there is none
     pub least: [Duration; 4], // for each kind, the least border that its next row may have: 0 while the kind has no row
 }

@@ -1,1 +1,1 @@
-pub mod Checks
+mod Checks

@@ -1,3 +1,3 @@
 pub mod Answers
-pub mod Months
-pub mod Years
+mod Months
+mod Years

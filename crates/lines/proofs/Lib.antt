@@ -1,3 +1,3 @@
 pub mod Written
-pub mod Digits
+mod Digits
 pub mod Currencies

@@ -1,8 +1,8 @@
-pub mod Backwards
+mod Backwards
 pub mod Forwards
-pub mod Gathered
-pub mod Values
-pub mod Positions
+mod Gathered
+mod Values
+mod Positions
 pub mod Trades
-pub mod Parts
+mod Parts
 pub mod Paper

@@ -24,26 +24,26 @@ ghost use Rattle.margin.specs.Openings.{Seated, fromRank, netAt, opening
 ghost use Rattle.margin.specs.Figures.{ClassRanged, TablesRanged, marginIn, marginsOf, classRows, priorityRows, currencyOf, noCurrency, figuresOf};
 
 // The sums of the trades.
-pub struct Sums {
+struct Sums {
     pub marks: [SignedCents; 500], // of each trade, 0 where it is not margined
     pub worths: [SignedCents; 200], // of each security
     pub totals: [SignedCents; 8], // mark-to-market of each currency
 }
 
 // Opening positions in all currencies: those of class k in the currency of rank r at place 41 × r + k.
-pub struct Openings {
+struct Openings {
     pub long: [Whole; 328],
     pub short: [Whole; 328],
 }
 
 // Positions of the classes in one currency, at the places of their numbers.
-pub struct Book {
+struct Book {
     pub long: [Whole; 41],
     pub short: [Whole; 41],
 }
 
 // The margins of the classes, and their sum.
-pub struct Margins {
+struct Margins {
     pub each: [Whole; 40],
     pub initial: Whole,
 }

@@ -1,2 +1,2 @@
-pub mod Row
-pub mod Turns
+mod Row
+mod Turns

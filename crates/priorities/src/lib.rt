@@ -21,7 +21,7 @@ ghost use Rattle.priorities.specs.Known.{knownOf, brokenOf};
 ghost use Rattle.priorities.specs.Section.{prioritySection};
 
 // A row and where the next line starts, or the row's refusal.
-pub enum PriorityRead {
+enum PriorityRead {
     Row(PriorityRow, Place),
     Refused(Number),
 }

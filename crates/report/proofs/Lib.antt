@@ -1,2 +1,2 @@
-pub mod Loops
+mod Loops
 pub mod Paper

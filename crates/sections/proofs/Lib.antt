@@ -1,4 +1,4 @@
-pub mod Begins
+mod Begins
 pub mod Loops
 pub mod Reading
 pub mod Stages

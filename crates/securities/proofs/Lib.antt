@@ -1,6 +1,6 @@
-pub mod Over
-pub mod Row
-pub mod Ranks
-pub mod Codes
-pub mod Turns
-pub mod Classes
+mod Over
+mod Row
+mod Ranks
+mod Codes
+mod Turns
+mod Classes

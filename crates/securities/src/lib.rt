@@ -28,7 +28,7 @@ ghost use Rattle.securities.specs.Ranks.{withRank};
 ghost use Rattle.securities.specs.Section.{securitySection, brokenOf, Small, securityOf};
 
 // An S row.
-pub struct SecurityRow {
+struct SecurityRow {
     pub code: Place, // where it stands
     pub number: Code,
     pub currency: Money,
@@ -42,13 +42,13 @@ pub struct SecurityRow {
 }
 
 // A row and where the next line starts, or the row's refusal.
-pub enum SecurityRead {
+enum SecurityRead {
     Row(SecurityRow, Place),
     Refused(Number),
 }
 
 // The classes of a table by kind, border and number, as a search wants them.
-pub struct Columns {
+struct Columns {
     pub kinds: [u64; 40], // by their numbers
     pub borders: [u64; 40], // ten-thousandths of a year
     pub numbers: [u64; 40], // 1..40

@@ -1,3 +1,3 @@
-pub mod Row
+mod Row
 pub mod Tables
-pub mod Turns
+mod Turns

@@ -26,7 +26,7 @@ ghost use Rattle.trades.specs.Found.{periodIn, marginedOn, periodHolds, 
 ghost use Rattle.trades.specs.Section.{tradeSection};
 
 // A T row.
-pub struct TradeRow {
+struct TradeRow {
     pub trade: u64, // 0 repo, 1 cash
     pub side: u64, // 0 seller, 1 purchaser
     pub code: Place, // where it stands
@@ -39,7 +39,7 @@ pub struct TradeRow {
 }
 
 // A row and where the next line starts, or the row's refusal.
-pub enum TradeRead {
+enum TradeRead {
     Row(TradeRow, Place),
     Refused(Number),
 }
