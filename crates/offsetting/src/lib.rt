@@ -50,7 +50,19 @@ pub fn offset_row(long: &mut [Whole; 41], short: &mut [Whole; 41], row: Priority
     }
 }
 
-// All rows in their order, each from what the one before left.
+// The rows of a lent table in their order, each from what the one before left.
+fn offset_each(rows: &[PriorityRow], long: &mut [Whole; 41], short: &mut [Whole; 41])
+    requires { ⌜ Each (λ r. PriorityFacts (rowOf r)) (now rows) × BookFacts (bookOf (now long) (now short)) ⌝ }
+    ensures { λ _. ⌜ bookOf (now (long .exit)) (now (short .exit)) ≡ offsetAll (map rowOf (now (rows .entry))) (bookOf (now (long .entry)) (now (short .entry))) ⌝ }
+{
+    let mut i: usize = 0; // rows
+    while i < rows.len() {
+        offset_row(long, short, rows[i]);
+        i += 1;
+    }
+}
+
+// All rows in their order: the table is lent to the walk, up to the count.
 pub fn offset_all(
     rows: [PriorityRow; 200],
     count: usize, // rows
@@ -60,10 +72,5 @@ pub fn offset_all(
     requires { ⌜ (count ≤ 200) × Each (λ r. PriorityFacts (rowOf r)) (take count rows) × BookFacts (bookOf (now long) (now short)) ⌝ }
     ensures { λ _. ⌜ bookOf (now (long .exit)) (now (short .exit)) ≡ offsetAll (map rowOf (take count rows)) (bookOf (now (long .entry)) (now (short .entry))) ⌝ }
 {
-    let mut i: usize = 0; // rows
-    while i < count {
-        let row = rows[i];
-        offset_row(long, short, row);
-        i += 1;
-    }
+    offset_each(&rows[..count], long, short);
 }
