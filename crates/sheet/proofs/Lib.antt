@@ -1,5 +1,6 @@
-pub mod Starting
-pub mod Marks
+pub mod Fields
+pub mod Header
 pub mod Row
+pub mod Starting
 pub mod Ends
 pub mod Chain

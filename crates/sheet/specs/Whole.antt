@@ -1,14 +1,17 @@
 -- A sheet as the code holds it: the tables that the paper reads, or the refusal.
 use mathlib.Core.Bool.{Bool, true, false, cond}
+use mathlib.Core.List.{[]}
 use lib.ListN.{take, drop}
 use Rattle.paper.specs.Units.{Text, Number, Day}
 use Rattle.paper.specs.Days.{day}
 use Rattle.paper.specs.Text.{ascii, same}
 use Rattle.paper.specs.Rows.{Tables}
 use Rattle.paper.specs.Refusals.{Outcome, refused, accepted, dateKind}
-use Rattle.places.specs.Places.{Place, lineAt}
+use Rattle.paper.specs.Sheet.{row}
+use Rattle.places.specs.Places.{Place}
 use Rattle.tables.specs.Held.{heldTables, noTables}
-use Rattle.sections.specs.Sections.{fieldsAt, shaped, told}
+use Rattle.sections.specs.Sections.{fieldsAt, told}
+use Rattle.sheet.specs.Fields.{twoFields}
 use Rattle.sheet.specs.declared.DateRead.{DateRead}
 use Rattle.sheet.specs.declared.DateRead.the-variants as reads
 use Rattle.sheet.specs.declared.Sheet.{Sheet}
@@ -22,9 +25,9 @@ heldSheet (accepted t) = record { refusal = 0; line = 0; tables = heldTables t }
 abbrev pub takenOf : Bool → Day → Place → DateRead
 takenOf good d next = cond good (reads.Row d next) (reads.Refused 7)
 
--- The D row of the line at a place, by its day
-abbrev pub dateRead : Text → Place → DateRead
-dateRead sheet at = told reads.Refused (λ d. reads.Row (day d) (lineAt sheet at .next)) (shaped dateKind (fieldsAt sheet at))
+-- The D row, by its day and the place behind its line
+abbrev pub dateRead : Text → DateRead
+dateRead sheet = told reads.Refused (λ d. reads.Row (day d) (twoFields sheet 6 .behind)) (row dateKind [] 2 (fieldsAt sheet 6))
 
 -- The number of a refusal, 0 for a day
 abbrev pub dateNumber : DateRead → Number

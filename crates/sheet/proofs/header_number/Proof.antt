@@ -1,65 +1,64 @@
--- `sheet::header_number` meets its contract: it looks at the bytes of the mark, and then of the version.
-use borrow.Author.Needs.{needs}
+-- `sheet::header_number` meets its contract: its first field is the mark, and its second the version.
 use native.Mathlib.Omega.{arith}
-use Rattle.sheet.proofs.Marks.{mark-there, mark-bytes, version-there, version-bytes, no-mark, no-version, header-there}
+use mathlib.Core.Bool.{true}
+use mathlib.Core.Path.{_≡_, sym, _∙_}
+use borrow.Author.Needs.{needs}
+use borrow.Author.Tests.{not-true, not-false}
+use Rattle.sheet.proofs.Fields.{two-within}
+use Rattle.sheet.proofs.Header.{mark, version, first-field, second-field, no-mark, no-version, header-there}
 use Rattle.sheet.proofs.header_number.Statement.{statement}
 use Rattle.sheet.proofs.header_number.Tie as tie
 
+is-text-requires : tie.Need-is-text-requires
+is-text-requires c κs =
+    let f = c .before in
+    let w = two-within (f .before .before .args .s .now) 0 (omega arith) (f .two-fields .result) (f .two-fields .ensures) in
+    (omega arith, w .1)
+
+-- Whether the first field is the mark
+is-mark : (c : tie.After-is-text) → let f = c .before .before in c .is-text .result ≡ mark (f .before .before .args .s .now)
+is-mark c =
+    let f = c .before .before in
+    c .is-text .ensures ∙ first-field (f .before .before .args .s .now) (f .two-fields .result) (f .two-fields .ensures)
+
 returns : tie.Need-returns
-returns c = no-mark (c .before .args .s .now) (λ e. let b = mark-bytes (c .before .args .s .now) e in omega arith)
+returns c =
+    let t = c .before in
+    no-mark (t .before .before .before .before .args .s .now) (sym (is-mark t) ∙ not-true (t .is-text .result) (c .if1 .taken))
+
+is-text-requires-2 : tie.Need-is-text-requires-2
+is-text-requires-2 c κs =
+    let f = c .before .before .before .before in
+    let w = two-within (f .before .before .args .s .now) 0 (omega arith) (f .two-fields .result) (f .two-fields .ensures) in
+    (w .2, w .3)
+
+-- It is, and whether the second is the version
+is-version : (c : tie.After-is-text2) → let t = c .before .before .before in let s = t .before .before .before .before .args .s .now in (mark s ≡ true) × (c .is-text2 .result ≡ version s)
+is-version c =
+    let t = c .before .before .before in
+    let f = t .before .before in
+    let first = not-false (t .is-text .result) (c .before .before .if1 .left) in
+    (sym (is-mark t) ∙ first, c .is-text2 .ensures ∙ second-field (f .before .before .args .s .now) (f .two-fields .result) (f .two-fields .ensures) (sym (t .is-text .ensures) ∙ first))
 
 returns-2 : tie.Need-returns-2
-returns-2 c = no-mark (c .before .before .before .args .s .now) (λ e. c .if2 .taken (mark-bytes (c .before .before .before .args .s .now) e .1))
+returns-2 c =
+    let v = is-version (c .before) in
+    no-version (c .before .before .before .before .before .before .before .before .args .s .now) (v .0) (sym (v .1) ∙ not-true (c .before .is-text2 .result) (c .if2 .taken))
 
 returns-3 : tie.Need-returns-3
-returns-3 c = no-mark (c .before .before .before .before .before .args .s .now) (λ e. c .if3 .taken (mark-bytes (c .before .before .before .before .before .args .s .now) e .2))
-
-returns-4 : tie.Need-returns-4
-returns-4 c = no-mark (c .before .before .before .before .before .before .before .args .s .now) (λ e. c .if4 .taken (mark-bytes (c .before .before .before .before .before .before .before .args .s .now) e .3))
-
-returns-5 : tie.Need-returns-5
-returns-5 c = no-mark (c .before .before .before .before .before .before .before .before .before .args .s .now) (λ e. c .if5 .taken (mark-bytes (c .before .before .before .before .before .before .before .before .before .args .s .now) e .4))
-
-returns-6 : tie.Need-returns-6
-returns-6 c =
-    let s = c .before .before .before .before .before .before .before .before .before .before .args .s .now in
-    let m = mark-there s (omega arith) (c .before .before .before .before .before .before .before .if2 .left) (c .before .before .before .before .before .if3 .left) (c .before .before .before .if4 .left) (c .before .if5 .left) in
-    no-version s m (λ e. let b = version-bytes s e in omega arith)
-
-returns-7 : tie.Need-returns-7
-returns-7 c =
-    let s = c .before .before .before .before .before .before .before .before .before .before .before .before .args .s .now in
-    let m = mark-there s (omega arith) (c .before .before .before .before .before .before .before .before .before .if2 .left) (c .before .before .before .before .before .before .before .if3 .left) (c .before .before .before .before .before .if4 .left) (c .before .before .before .if5 .left) in
-    no-version s m (λ e. c .if7 .taken (version-bytes s e .1))
-
-returns-8 : tie.Need-returns-8
-returns-8 c =
-    let s = c .before .before .before .before .before .before .before .before .before .before .before .before .before .before .args .s .now in
-    let m = mark-there s (omega arith) (c .before .before .before .before .before .before .before .before .before .before .before .if2 .left) (c .before .before .before .before .before .before .before .before .before .if3 .left) (c .before .before .before .before .before .before .before .if4 .left) (c .before .before .before .before .before .if5 .left) in
-    no-version s m (λ e. c .if8 .taken (version-bytes s e .2))
-
-returns-9 : tie.Need-returns-9
-returns-9 c =
-    let s = c .before .before .before .before .before .before .before .before .before .before .before .before .before .before .args .s .now in
-    let m = mark-there s (omega arith) (c .before .before .before .before .before .before .before .before .before .before .before .if2 .left) (c .before .before .before .before .before .before .before .before .before .if3 .left) (c .before .before .before .before .before .before .before .if4 .left) (c .before .before .before .before .before .if5 .left) in
-    header-there s m (version-there s (omega arith) (c .before .before .if7 .left) (c .if8 .left))
+returns-3 c =
+    let v = is-version (c .before) in
+    header-there (c .before .before .before .before .before .before .before .before .args .s .now) (v .0) (sym (v .1) ∙ not-false (c .before .is-text2 .result) (c .if2 .left))
 
 pub header-number-spec : {M : Type 1} → statement M
 header-number-spec =
     tie.close
     (tie.spec
+    (λ c κs. search needs)
+    (λ c. search needs)
+    is-text-requires
     returns
     (λ c. search needs)
+    is-text-requires-2
     returns-2
-    (λ c. search needs)
-    returns-3
-    (λ c. search needs)
-    returns-4
-    (λ c. search needs)
-    returns-5
-    returns-6
-    (λ c. search needs)
-    returns-7
-    (λ c. search needs)
-    returns-8
-    returns-9)
+    returns-3)
