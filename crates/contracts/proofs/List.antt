@@ -53,6 +53,9 @@ use Rattle.classes.proofs.class_section.Reads as classes-class-section
 use Rattle.priorities.proofs.priority_section.Reads as priorities-priority-section
 use Rattle.securities.proofs.security_section.Reads as securities-security-section
 use Rattle.trades.proofs.trade_section.Reads as trades-trade-section
+use Rattle.head.proofs.header_number.Reads as head-header-number
+use Rattle.head.proofs.date_row.Reads as head-date-row
+use Rattle.head.proofs.date_number.Reads as head-date-number
 use Rattle.sheet.proofs.read_sheet.Reads as sheet-read-sheet
 use Rattle.valuation.proofs.accrued.Reads as valuation-accrued
 use Rattle.valuation.proofs.revaluated.Reads as valuation-revaluated
@@ -212,6 +215,15 @@ securities-security-section-fixed κs a x y s u p q = one p q
 
 pub trades-trade-section-fixed : Fixes trades-trade-section.Post
 trades-trade-section-fixed κs a x y s u p q = one p q
+
+pub head-header-number-fixed : Fixes head-header-number.Post
+head-header-number-fixed κs a x y s u p q = one p q
+
+pub head-date-row-fixed : Fixes head-date-row.Post
+head-date-row-fixed κs a x y s u p q = one p q
+
+pub head-date-number-fixed : Fixes head-date-number.Post
+head-date-number-fixed κs a x y s u p q = one p q
 
 pub sheet-read-sheet-fixed : Fixes sheet-read-sheet.Post
 sheet-read-sheet-fixed κs a x y s u p q = one p q

@@ -1,6 +1,3 @@
-pub mod Fields
-pub mod Header
-pub mod Row
-pub mod Starting
-pub mod Ends
-pub mod Chain
+mod Starting
+mod Ends
+mod Chain

@@ -17,10 +17,10 @@ use Rattle.places.specs.Places.{Place, endedLength}
 use Rattle.places.proofs.Places.{ended-append}
 use Rattle.sections.specs.Sections.{fieldsAt}
 use Rattle.sections.proofs.Loops.{Words, told-row, told-refused}
-use Rattle.sheet.specs.Fields.{twoFields}
-use Rattle.sheet.specs.Whole.{headerNumber, dateRead}
-use Rattle.sheet.specs.declared.DateRead.the-variants as reads
-use Rattle.sheet.proofs.Row.{lines-there, within-there, formed, accepted-formed, refused-line}
+use Rattle.head.specs.Fields.{twoFields}
+use Rattle.head.specs.Read.{headerNumber, dateRead}
+use Rattle.head.specs.declared.DateRead.the-variants as reads
+use Rattle.head.proofs.Row.{lines-there, within-there, formed, accepted-formed, refused-line}
 
 -- What a header comes to, by its two rules
 abbrev numberBy : Bool → Bool → Number

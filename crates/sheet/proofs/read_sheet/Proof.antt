@@ -4,7 +4,8 @@ use native.Mathlib.Omega.{arith}
 use mathlib.Core.Path.{_≡_, sym, ap, _∙_}
 use borrow.Author.Needs.{needs}
 use Rattle.paper.specs.Refusals.{refused}
-use Rattle.sheet.specs.Whole.{headerNumber, dateNumber, heldSheet}
+use Rattle.head.specs.Read.{headerNumber, dateNumber}
+use Rattle.sheet.specs.Whole.{heldSheet}
 use Rattle.sheet.proofs.Starting.{header-right, header-wrong, header-ended, DateThere, date-read, date-number-read, read-no-header, read-behind}
 use Rattle.sheet.proofs.read_sheet.Statement.{statement}
 use Rattle.sheet.proofs.read_sheet.Tie as tie

@@ -1,13 +1,13 @@
--- `sheet::header_number` meets its contract: its first field is the mark, and its second the version.
+-- `head::header_number` meets its contract: its first field is the mark, and its second the version.
 use native.Mathlib.Omega.{arith}
 use mathlib.Core.Bool.{true}
 use mathlib.Core.Path.{_≡_, sym, _∙_}
 use borrow.Author.Needs.{needs}
 use borrow.Author.Tests.{not-true, not-false}
-use Rattle.sheet.proofs.Fields.{two-within}
-use Rattle.sheet.proofs.Header.{mark, version, first-field, second-field, no-mark, no-version, header-there}
-use Rattle.sheet.proofs.header_number.Statement.{statement}
-use Rattle.sheet.proofs.header_number.Tie as tie
+use Rattle.head.proofs.Fields.{two-within}
+use Rattle.head.proofs.Header.{mark, version, first-field, second-field, no-mark, no-version, header-there}
+use Rattle.head.proofs.header_number.Statement.{statement}
+use Rattle.head.proofs.header_number.Tie as tie
 
 is-text-requires : tie.Need-is-text-requires
 is-text-requires c κs =

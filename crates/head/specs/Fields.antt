@@ -8,8 +8,8 @@ use denote.Ref.{now}
 use Rattle.paper.specs.Units.{Byte, Text}
 use Rattle.paper.specs.Text.{LF, semicolon}
 use Rattle.places.specs.Places.{Place}
-use Rattle.sheet.specs.declared.Reader.{Reader}
-use Rattle.sheet.specs.declared.Two.{Two}
+use Rattle.head.specs.declared.Reader.{Reader}
+use Rattle.head.specs.declared.Two.{Two}
 
 -- Whether a byte ends a field
 abbrev pub isMark : Byte → Bool

@@ -1,6 +1,6 @@
--- `sheet::taken` meets its contract, on both ways.
-use Rattle.sheet.proofs.taken.Statement.{statement}
-use Rattle.sheet.proofs.taken.Tie as tie
+-- `head::taken` meets its contract, on both ways.
+use Rattle.head.proofs.taken.Statement.{statement}
+use Rattle.head.proofs.taken.Tie as tie
 
 returns : tie.Need-returns
 returns c = rw (c .if1 .taken)

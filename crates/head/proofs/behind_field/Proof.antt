@@ -1,13 +1,13 @@
--- `sheet::behind_field` meets its contract: what is passed over so far is no mark.
+-- `head::behind_field` meets its contract: what is passed over so far is no mark.
 use Prim.Native.Nat.{_-_}
 use native.Mathlib.Omega.{arith}
 use mathlib.Core.Path.{_≡_, sym, _∙_}
 use borrow.Author.Needs.{needs}
 use lib.ListN.{length}
-use Rattle.sheet.specs.Fields.{behindField}
-use Rattle.sheet.proofs.Fields.{at-mark, at-plain, at-end}
-use Rattle.sheet.proofs.behind_field.Statement.{statement}
-use Rattle.sheet.proofs.behind_field.Tie as tie
+use Rattle.head.specs.Fields.{behindField}
+use Rattle.head.proofs.Fields.{at-mark, at-plain, at-end}
+use Rattle.head.proofs.behind_field.Statement.{statement}
+use Rattle.head.proofs.behind_field.Tie as tie
 
 abbrev Inv-loop : tie.InvT-loop
 Inv-loop s at i₀ i = behindField s i ≡ behindField s at

@@ -1,4 +1,4 @@
--- `sheet::is_text` meets its contract. The loop's invariant: the bytes so far are the text's. The measure is the bytes left.
+-- `head::is_text` meets its contract. The loop's invariant: the bytes so far are the text's. The measure is the bytes left.
 use Prim.Native.Nat.{ℕ, suc, _+_, _-_, _≤_, _<_}
 use native.Mathlib.Nat.{add-zero}
 use native.Mathlib.Numerals.{add-one}
@@ -15,8 +15,8 @@ use Rattle.paper.specs.Text.{same}
 use Rattle.paper.proofs.Order.{same-true}
 use Rattle.places.specs.Places.{Place}
 use Rattle.places.proofs.Parts.{part-step, part-empty}
-use Rattle.sheet.proofs.is_text.Statement.{statement}
-use Rattle.sheet.proofs.is_text.Tie as tie
+use Rattle.head.proofs.is_text.Statement.{statement}
+use Rattle.head.proofs.is_text.Tie as tie
 
 module _ (text s : Text) (at end : Place) (h : at ≤ end) (k : end ≤ length s) where
   -- A text of another length is another

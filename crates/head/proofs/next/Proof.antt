@@ -1,4 +1,4 @@
--- `sheet::next` meets its contract: a walk of its MIR, by hand. The reader is taken apart, and `behind_field` is called on its
+-- `head::next` meets its contract: a walk of its MIR, by hand. The reader is taken apart, and `behind_field` is called on its
 -- sheet and its place; the sheet and the answer are the reader that is handed back.
 -- A reader is Copy, so what it owns is had twice: once for the exit, and once for the callee, part by part.
 use mathlib.Core.Path.{_≡_, refl, ap}
@@ -43,18 +43,18 @@ use denote.Triple.Table.{entered, cited}
 use denote.Triple.Walked.{says, Stays, stay-none, walkOf, goes-none, Walks, ends-at, walked, walk-meets}
 use denote.Triple.Clauses.{ensured, lasts}
 use denote.Exit.{yes}
-use Rattle.sheet.specs.Fields.{behindField}
-use Rattle.sheet.specs.declared.Reader.{Reader}
-use Rattle.sheet.proofs.Reader as T
-use Rattle.sheet.proofs.Reader.Laws as T′
-use Rattle.sheet.proofs.behind_field as behind-field
-use Rattle.sheet.proofs.behind_field.Symbol as behind-field-def
-use Rattle.sheet.proofs.behind_field.Symbol.{name as #sheet·behind-field}
-use Rattle.sheet.proofs.behind_field.Met as behind-field-thm
-use Rattle.sheet.proofs.next.Key.{name as #sheet·next}
-use Rattle.sheet.proofs.next as next
-use Rattle.sheet.proofs.next.Statement as stated
-use Rattle.sheet.proofs.next.Code as code
+use Rattle.head.specs.Fields.{behindField}
+use Rattle.head.specs.declared.Reader.{Reader}
+use Rattle.head.proofs.Reader as T
+use Rattle.head.proofs.Reader.Laws as T′
+use Rattle.head.proofs.behind_field as behind-field
+use Rattle.head.proofs.behind_field.Symbol as behind-field-def
+use Rattle.head.proofs.behind_field.Symbol.{name as #head·behind-field}
+use Rattle.head.proofs.behind_field.Met as behind-field-thm
+use Rattle.head.proofs.next.Key.{name as #head·next}
+use Rattle.head.proofs.next as next
+use Rattle.head.proofs.next.Statement as stated
+use Rattle.head.proofs.next.Code as code
 
 -- The reader's type, over the signature's lifetimes
 abbrev B : Lfts 1 → RattleType
@@ -125,7 +125,7 @@ module _ {M : Type 1} (𝓤 : URA M) (H : Heap 𝓤) (A : Atoms 𝓤) (W : Given
       -- [what the reader owns]: the place takes the place of the one before
       owned ! usize (Is usize) (uint-makes 𝓤 H A W w64) n _ (refl, fits) $ move ! (1 ∷ 0 ∷ []) $ by ! (own-put 𝓤 H A W D L 1 vd n mach)
 
-  module _ (C : Calls 𝓤 H) (Λ : Loops 𝓤 H) (fm : FmC 𝓤 H (W .laws) C) (known : Triple 𝓤 (C #sheet·behind-field) (Behind 𝓤 H A mem run)) where
+  module _ (C : Calls 𝓤 H) (Λ : Loops 𝓤 H) (fm : FmC 𝓤 H (W .laws) C) (known : Triple 𝓤 (C #head·behind-field) (Behind 𝓤 H A mem run)) where
     walk : Holds (hasTy (T′.mir (named 0)) mach) × WT mach → ent 𝓤 (onEntry 𝓤 H A next.signature (κ, tt) (q, tt) (d, tt) (mach ∷ [], tt)) (WpFn 𝓤 H C Λ code.function (mach ∷ []) Post)
     walk wt =
         qed W (raw (onEntry 𝓤 H A next.signature (κ, tt) (q, tt) (d, tt) (mach ∷ [], tt)) ∷ []) ∵ enter ! C Λ code.function (mach ∷ []) _ $
@@ -146,13 +146,13 @@ module _ {M : Type 1} (𝓤 : URA M) (H : Heap 𝓤) (A : Atoms 𝓤) (W : Given
         move ! (13 ∷ 14 ∷ []) $ free1 ! $ move ! (11 ∷ 12 ∷ []) $ free1 ! $ move ! (9 ∷ 10 ∷ []) $ free1 ! $ move ! (7 ∷ 8 ∷ []) $ free1 ! $ move ! (5 ∷ 6 ∷ []) $ free1 ! $ move ! (3 ∷ 4 ∷ []) $ free1 ! $ free0 ! $ by ! (exits n u e (is .1))))))))))))
 
 module _ {M : Type 1} (𝓤 : URA M) (H : Heap 𝓤) (A : Atoms 𝓤) (W : Given 𝓤 H A) (mem : Memory → SProp 𝓤) (run : Routine → Fun 𝓤) where
-  next-walks : (C : Calls 𝓤 H) (Λ : Loops 𝓤 H) → FmC 𝓤 H (W .laws) C → Triple 𝓤 (C #sheet·behind-field) (Behind 𝓤 H A mem run)
+  next-walks : (C : Calls 𝓤 H) (Λ : Loops 𝓤 H) → FmC 𝓤 H (W .laws) C → Triple 𝓤 (C #head·behind-field) (Behind 𝓤 H A mem run)
       → Walks 𝓤 H A next.ended stayed (WpFn 𝓤 H C Λ code.function) (next.clauses 𝓤 H A mem run)
   next-walks C Λ fm known = walked 𝓤 H A next.ended stayed (next.clauses 𝓤 H A mem run) (WpFn 𝓤 H C Λ code.function) (λ κs. (LL.vals (T.the-type (namedLft 1 0 tt κs)) (T′.the-laws (namedLft 1 0 tt κs)), tt)) (λ κs. (LL.tells (T.the-type (namedLft 1 0 tt κs)) (T′.the-laws (namedLft 1 0 tt κs)), tt))
       (λ κs qs bounds a g are. via 𝓤 _ (fst∗ 𝓤 _ (emp 𝓤)) (walk 𝓤 H A W mem run (κs .0) (qs .0) (a .0) C Λ fm known (LL.lawful (T.the-type (namedLft 1 0 tt κs)) (T′.the-laws (namedLft 1 0 tt κs)) 𝓤 H A W .typed (a .0) _ (are .0) .0)))
 
 next-meets : {M : Type 1} (𝓤 : URA M) (H : Heap 𝓤) (A : Atoms 𝓤) (W : Given 𝓤 H A) (mem : Memory → SProp 𝓤) (run : Routine → Fun 𝓤) (𝓣 : Tables 𝓤 H)
-    → Triple 𝓤 (𝓣 .C #sheet·behind-field) (Behind 𝓤 H A mem run)
+    → Triple 𝓤 (𝓣 .C #head·behind-field) (Behind 𝓤 H A mem run)
     → Meets 𝓤 H A next.signature (WpFn 𝓤 H (𝓣 .C) (𝓣 .Λ) code.function) (next.spec 𝓤 H A mem run)
 next-meets 𝓤 H A W mem run 𝓣 known = walk-meets 𝓤 H A next.ended stayed W (goes-none 𝓤 H A W 1 B yes (λ κs x f. refl), tt) (next.clauses 𝓤 H A mem run) (WpFn 𝓤 H (𝓣 .C) (𝓣 .Λ) code.function) (WpFn-mono 𝓤 H (W .laws) 𝓣 code.function)
     (next-walks 𝓤 H A W mem run (𝓣 .C) (𝓣 .Λ) (fmOf 𝓤 H (W .laws) 𝓣) known)
@@ -161,6 +161,6 @@ pub next-spec : {M : Type 1} → stated.statement M
 unfolding code.routine tablesOf
 next-spec 𝓤 H 𝓜 𝓖 𝓡 =
     entered 𝓤 H (tripleOf 𝓤 H (𝓖 .A) next.signature (next.spec 𝓤 H (𝓖 .A) (𝓜 .mem) (𝓡 .run)))
-    (tables 𝓤 H 𝓜 𝓡 code.env .C) (tables 𝓤 H 𝓜 𝓡 code.env .Λ) #sheet·next code.function (code.unfolded 𝓤 H 𝓜 𝓡)
+    (tables 𝓤 H 𝓜 𝓡 code.env .C) (tables 𝓤 H 𝓜 𝓡 code.env .Λ) #head·next code.function (code.unfolded 𝓤 H 𝓜 𝓡)
     (next-meets 𝓤 H (𝓖 .A) (givenOf 𝓤 H 𝓜 𝓖) (𝓜 .mem) (𝓡 .run) (tablesOf 𝓤 H 𝓜 (tables 𝓤 H 𝓜 𝓡 code.env))
-    (cited 𝓤 H (Behind 𝓤 H (𝓖 .A) (𝓜 .mem) (𝓡 .run)) 𝓜 𝓡 code.env #sheet·behind-field behind-field-def.routine code.calls-sheet·behind-field (behind-field-thm.met 𝓤 H 𝓜 𝓖 𝓡)))
+    (cited 𝓤 H (Behind 𝓤 H (𝓖 .A) (𝓜 .mem) (𝓡 .run)) 𝓜 𝓡 code.env #head·behind-field behind-field-def.routine code.calls-head·behind-field (behind-field-thm.met 𝓤 H 𝓜 𝓖 𝓡)))

@@ -16,8 +16,8 @@ use Rattle.paper.proofs.Lists.{both, never, every-step, every-cons}
 use Rattle.paper.proofs.Lines.{plain}
 use Rattle.paper.proofs.Order.{same-true}
 use Rattle.places.specs.Places.{Place}
-use Rattle.sheet.specs.Fields.{isMark, fieldLength, behindField, twoFields}
-use Rattle.sheet.specs.declared.Two.{Two}
+use Rattle.head.specs.Fields.{isMark, fieldLength, behindField, twoFields}
+use Rattle.head.specs.declared.Two.{Two}
 
 -- ---- byte by byte
 

@@ -1,4 +1,4 @@
--- `sheet::two_fields` meets its contract: a walk of its MIR, by hand. A reader is made of the sheet and the place, and `next` is
+-- `head::two_fields` meets its contract: a walk of its MIR, by hand. A reader is made of the sheet and the place, and `next` is
 -- called on it and on its answer; the places of the two answers are the result.
 -- A `&[u8]` is Copy, so what it owns is had twice: once for the exit, and once inside the reader. A local's lifetime is erased,
 -- and what a reader owns does not say the lifetime's name.
@@ -40,21 +40,21 @@ use denote.Triple.Table.{entered, cited}
 use denote.Triple.Walked.{says, Stays, stay-none, stay-none-slice, walkOf, goes-none, goes-none-slice, Walks, ends-at, walked, walk-meets}
 use denote.Triple.Clauses.{ensured, lasts}
 use denote.Exit.{yes}
-use Rattle.sheet.specs.Fields.{handedOn}
-use Rattle.sheet.specs.declared.Reader.{Reader}
-use Rattle.sheet.specs.declared.Two.{Two}
-use Rattle.sheet.proofs.Reader as T
-use Rattle.sheet.proofs.Reader.Laws as T′
-use Rattle.sheet.proofs.Two as R
-use Rattle.sheet.proofs.Two.Laws as R′
-use Rattle.sheet.proofs.next as next
-use Rattle.sheet.proofs.next.Symbol as next-def
-use Rattle.sheet.proofs.next.Symbol.{name as #sheet·next}
-use Rattle.sheet.proofs.next.Met as next-thm
-use Rattle.sheet.proofs.two_fields.Key.{name as #sheet·two-fields}
-use Rattle.sheet.proofs.two_fields as two-fields
-use Rattle.sheet.proofs.two_fields.Statement as stated
-use Rattle.sheet.proofs.two_fields.Code as code
+use Rattle.head.specs.Fields.{handedOn}
+use Rattle.head.specs.declared.Reader.{Reader}
+use Rattle.head.specs.declared.Two.{Two}
+use Rattle.head.proofs.Reader as T
+use Rattle.head.proofs.Reader.Laws as T′
+use Rattle.head.proofs.Two as R
+use Rattle.head.proofs.Two.Laws as R′
+use Rattle.head.proofs.next as next
+use Rattle.head.proofs.next.Symbol as next-def
+use Rattle.head.proofs.next.Symbol.{name as #head·next}
+use Rattle.head.proofs.next.Met as next-thm
+use Rattle.head.proofs.two_fields.Key.{name as #head·two-fields}
+use Rattle.head.proofs.two_fields as two-fields
+use Rattle.head.proofs.two_fields.Statement as stated
+use Rattle.head.proofs.two_fields.Code as code
 
 abbrev stayed : Stays (two-fields.ended .signature .params) (two-fields.ended .kept)
 stayed = (stay-none-slice (0 ∷ []) tt (plain (λ _. u8)) yes, (stay-none (λ _. usize) yes, tt))
@@ -130,7 +130,7 @@ module _ {M : Type 1} (𝓤 : URA M) (H : Heap 𝓤) (A : Atoms 𝓤) (W : Given
       nothing ! $ owned ! usize (Is usize) (uint-makes 𝓤 H A W w64) (t .at) _ (refl, fits′) $ fjoin ! $ owned ! usize (Is usize) (uint-makes 𝓤 H A W w64) (r .at) _ (refl, fits) $ fjoin ! $
       by ! (own-shut 𝓤 H A W R.the-type R′.the-laws (r .at, (t .at, tt)))
 
-  module _ (C : Calls 𝓤 H) (Λ : Loops 𝓤 H) (fm : FmC 𝓤 H (W .laws) C) (known : Triple 𝓤 (C #sheet·next) (Next 𝓤 H A mem run)) where
+  module _ (C : Calls 𝓤 H) (Λ : Loops 𝓤 H) (fm : FmC 𝓤 H (W .laws) C) (known : Triple 𝓤 (C #head·next) (Next 𝓤 H A mem run)) where
     walk : Is (ShrSlice (named 0) κ u8) s (v ∷ []) → ent 𝓤 (onEntry 𝓤 H A two-fields.signature (κ, tt) (q, tt) (s, (n, tt)) at) (WpFn 𝓤 H C Λ code.function (v ∷ vint w64 n ∷ []) Post)
     walk p =
         let lies = shr-slice-lawful 𝓤 H A W (named 0) κ u8 .typed s (v ∷ []) p .0 in
@@ -163,13 +163,13 @@ module _ {M : Type 1} (𝓤 : URA M) (H : Heap 𝓤) (A : Atoms 𝓤) (W : Given
         by ! (exits r t u′ e k (fits-in r u is) (fits-in t u′ is′)))))))))))))))))))
 
 module _ {M : Type 1} (𝓤 : URA M) (H : Heap 𝓤) (A : Atoms 𝓤) (W : Given 𝓤 H A) (mem : Memory → SProp 𝓤) (run : Routine → Fun 𝓤) where
-  two-fields-walks : (C : Calls 𝓤 H) (Λ : Loops 𝓤 H) → FmC 𝓤 H (W .laws) C → Triple 𝓤 (C #sheet·next) (Next 𝓤 H A mem run)
+  two-fields-walks : (C : Calls 𝓤 H) (Λ : Loops 𝓤 H) → FmC 𝓤 H (W .laws) C → Triple 𝓤 (C #head·next) (Next 𝓤 H A mem run)
       → Walks 𝓤 H A two-fields.ended stayed (WpFn 𝓤 H C Λ code.function) (two-fields.clauses 𝓤 H A mem run)
   two-fields-walks C Λ fm known = walked 𝓤 H A two-fields.ended stayed (two-fields.clauses 𝓤 H A mem run) (WpFn 𝓤 H C Λ code.function) (λ κs. (slice-vals, (uint-vals w64, tt))) (λ κs. (shr-slice-tells (named 0) (κs .0) u8, (uint-tells w64, tt)))
       (λ κs qs bounds a g are. via 𝓤 _ (fst∗ 𝓤 _ (emp 𝓤)) (walk 𝓤 H A W mem run (κs .0) (qs .0) (a .0) (a .1 .0) (are .1 .0 .1) C Λ fm known (are .0)))
 
 two-fields-meets : {M : Type 1} (𝓤 : URA M) (H : Heap 𝓤) (A : Atoms 𝓤) (W : Given 𝓤 H A) (mem : Memory → SProp 𝓤) (run : Routine → Fun 𝓤) (𝓣 : Tables 𝓤 H)
-    → Triple 𝓤 (𝓣 .C #sheet·next) (Next 𝓤 H A mem run)
+    → Triple 𝓤 (𝓣 .C #head·next) (Next 𝓤 H A mem run)
     → Meets 𝓤 H A two-fields.signature (WpFn 𝓤 H (𝓣 .C) (𝓣 .Λ) code.function) (two-fields.spec 𝓤 H A mem run)
 two-fields-meets 𝓤 H A W mem run 𝓣 known = walk-meets 𝓤 H A two-fields.ended stayed W (goes-none-slice 𝓤 H A W 1 (0 ∷ []) tt (plain (λ _. u8)) yes, (goes-none 𝓤 H A W 1 (λ _. usize) yes (λ κs x f. refl), tt)) (two-fields.clauses 𝓤 H A mem run) (WpFn 𝓤 H (𝓣 .C) (𝓣 .Λ) code.function) (WpFn-mono 𝓤 H (W .laws) 𝓣 code.function)
     (two-fields-walks 𝓤 H A W mem run (𝓣 .C) (𝓣 .Λ) (fmOf 𝓤 H (W .laws) 𝓣) known)
@@ -178,6 +178,6 @@ pub two-fields-spec : {M : Type 1} → stated.statement M
 unfolding code.routine tablesOf
 two-fields-spec 𝓤 H 𝓜 𝓖 𝓡 =
     entered 𝓤 H (tripleOf 𝓤 H (𝓖 .A) two-fields.signature (two-fields.spec 𝓤 H (𝓖 .A) (𝓜 .mem) (𝓡 .run)))
-    (tables 𝓤 H 𝓜 𝓡 code.env .C) (tables 𝓤 H 𝓜 𝓡 code.env .Λ) #sheet·two-fields code.function (code.unfolded 𝓤 H 𝓜 𝓡)
+    (tables 𝓤 H 𝓜 𝓡 code.env .C) (tables 𝓤 H 𝓜 𝓡 code.env .Λ) #head·two-fields code.function (code.unfolded 𝓤 H 𝓜 𝓡)
     (two-fields-meets 𝓤 H (𝓖 .A) (givenOf 𝓤 H 𝓜 𝓖) (𝓜 .mem) (𝓡 .run) (tablesOf 𝓤 H 𝓜 (tables 𝓤 H 𝓜 𝓡 code.env))
-    (cited 𝓤 H (Next 𝓤 H (𝓖 .A) (𝓜 .mem) (𝓡 .run)) 𝓜 𝓡 code.env #sheet·next next-def.routine code.calls-sheet·next (next-thm.met 𝓤 H 𝓜 𝓖 𝓡)))
+    (cited 𝓤 H (Next 𝓤 H (𝓖 .A) (𝓜 .mem) (𝓡 .run)) 𝓜 𝓡 code.env #head·next next-def.routine code.calls-head·next (next-thm.met 𝓤 H 𝓜 𝓖 𝓡)))

@@ -26,12 +26,12 @@ use Rattle.places.proofs.Places.{ended-append, ended-drop, ended-most, line-the
 use Rattle.fields.specs.Values.{orHighest, isRead}
 use Rattle.fields.proofs.Readings.{day-read}
 use Rattle.sections.specs.Sections.{fieldsAt, told}
-use Rattle.sheet.specs.Fields.{fieldLength, behindField, twoFields}
-use Rattle.sheet.specs.Whole.{takenOf, dateRead}
-use Rattle.sheet.specs.declared.Two.{Two}
-use Rattle.sheet.specs.declared.DateRead.{DateRead}
-use Rattle.sheet.specs.declared.DateRead.the-variants as reads
-use Rattle.sheet.proofs.Fields.{part, handed-text, handed-size, field-ended, ended-by}
+use Rattle.head.specs.Fields.{fieldLength, behindField, twoFields}
+use Rattle.head.specs.Read.{takenOf, dateRead}
+use Rattle.head.specs.declared.Two.{Two}
+use Rattle.head.specs.declared.DateRead.{DateRead}
+use Rattle.head.specs.declared.DateRead.the-variants as reads
+use Rattle.head.proofs.Fields.{part, handed-text, handed-size, field-ended, ended-by}
 
 -- Line 2: `D`, `;`, a date and LF
 pub record DateLine (sheet : Text) : Type 0 where

@@ -7,10 +7,10 @@ use lib.Seq.{slice}
 use Rattle.paper.specs.Units.{Text}
 use Rattle.paper.specs.Text.{ascii, same}
 use Rattle.places.specs.Places.{Place}
-use Rattle.sheet.specs.Fields.{behindField, twoFields}
-use Rattle.sheet.specs.Whole.{headerNumber}
-use Rattle.sheet.specs.declared.Two.{Two}
-use Rattle.sheet.proofs.Fields.{handed-within, handed-text, handed-size}
+use Rattle.head.specs.Fields.{behindField, twoFields}
+use Rattle.head.specs.Read.{headerNumber}
+use Rattle.head.specs.declared.Two.{Two}
+use Rattle.head.proofs.Fields.{handed-within, handed-text, handed-size}
 
 -- The sheet begins with the mark, and goes on with the version
 abbrev pub mark : Text → Bool

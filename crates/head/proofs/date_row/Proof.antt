@@ -1,4 +1,4 @@
--- `sheet::date_row` meets its contract: its first field is the letter, and its second is read as a date and as a day.
+-- `head::date_row` meets its contract: its first field is the letter, and its second is read as a date and as a day.
 use Prim.Native.Nat.{_≤_, _-_}
 use native.Mathlib.Omega.{arith}
 use mathlib.Core.List.{List, _∷_}
@@ -12,12 +12,12 @@ use Rattle.paper.specs.Text.{ascii, same}
 use Rattle.paper.proofs.Lists.{never}
 use Rattle.places.specs.Places.{Place, endedLength, Stands}
 use Rattle.places.proofs.Places.{ended-most}
-use Rattle.sheet.specs.Fields.{behindField}
-use Rattle.sheet.specs.declared.Two.{Two}
-use Rattle.sheet.proofs.Fields.{two-within}
-use Rattle.sheet.proofs.Row.{DateLine, letter-there, lf-there, stands-there, date-there, found, formed, not-formed, date-told}
-use Rattle.sheet.proofs.date_row.Statement.{statement}
-use Rattle.sheet.proofs.date_row.Tie as tie
+use Rattle.head.specs.Fields.{behindField}
+use Rattle.head.specs.declared.Two.{Two}
+use Rattle.head.proofs.Fields.{two-within}
+use Rattle.head.proofs.Row.{DateLine, letter-there, lf-there, stands-there, date-there, found, formed, not-formed, date-told}
+use Rattle.head.proofs.date_row.Statement.{statement}
+use Rattle.head.proofs.date_row.Tie as tie
 
 -- The sheet is longer than its header
 long : (s : Text) → 6 ≤ endedLength s → 6 ≤ length s

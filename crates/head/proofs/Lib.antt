@@ -1,0 +1,3 @@
+mod Fields
+mod Header
+pub mod Row
