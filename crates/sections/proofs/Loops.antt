@@ -66,7 +66,7 @@ module _ {R : Type 0} (kind : RowKind R) where
       elim form [ false ↦ refused 5 at | true ↦ elim o [ none ↦ refused 6 at | some r ↦ judged at r (rulesOf kind above r) ] ]
 
   -- A line with the letter that is refused by itself is refused among the rows above
-  pub row-refused : (above : List R) (at : Line) (fs : Fields) (number line : ℕ) → begins (kind .letter) fs ≡ true
+  row-refused : (above : List R) (at : Line) (fs : Fields) (number line : ℕ) → begins (kind .letter) fs ≡ true
       → shaped kind fs ≡ refused number line → row kind above at fs ≡ refused number at
   unfolding alone among
   row-refused above at fs number line b e =
@@ -78,7 +78,7 @@ module _ {R : Type 0} (kind : RowKind R) where
       go true (some r) e = judged-before at r (kind .own r) (kind .others above r) number line e
 
   -- One that is accepted by itself is judged by the rules that look at other rows
-  pub row-judged : (above : List R) (at : Line) (fs : Fields) (r : R) → begins (kind .letter) fs ≡ true
+  row-judged : (above : List R) (at : Line) (fs : Fields) (r : R) → begins (kind .letter) fs ≡ true
       → shaped kind fs ≡ accepted r → row kind above at fs ≡ judged at r (kind .others above r)
   unfolding alone among
   row-judged above at fs r b e =
@@ -92,7 +92,7 @@ module _ {R : Type 0} (kind : RowKind R) where
           judged-behind at q (kind .own q) (kind .others above q) holds ∙ ap (λ (x : R). judged at x (kind .others above x)) one
 
   -- Such a row keeps its own rules
-  pub own-holds : (fs : Fields) (r : R) → shaped kind fs ≡ accepted r → T (hold (kind .own r))
+  own-holds : (fs : Fields) (r : R) → shaped kind fs ≡ accepted r → T (hold (kind .own r))
   unfolding alone
   own-holds fs r e = go (eqb (length fs) (kind .many)) (kind .read fs) e
     where
@@ -180,7 +180,7 @@ module _ {R : Type 0} (kind : RowKind R) (numbers : (above : List R) (r : R) →
     refusing number e = g .so-far ∙ ap (rowsFrom kind above count) (taken-line .0) ∙ rw (begun, e, rowsFrom)
 
     -- A line that is refused by itself refuses the section
-    pub going-refused : (number line : ℕ) → shaped kind (fieldsAt sheet at) ≡ refused number line → whole kind sheet from ≡ refused number count
+    going-refused : (number line : ℕ) → shaped kind (fieldsAt sheet at) ≡ refused number line → whole kind sheet from ≡ refused number count
     going-refused number line e = refusing number (row-refused kind above count (fieldsAt sheet at) number line begun e)
 
     -- A row that breaks a rule on other rows does
