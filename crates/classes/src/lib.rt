@@ -8,11 +8,14 @@ use tables::Classes;
 ghost use mathlib.Core.Path.{_≡_};
 ghost use mathlib.Core.List.{[]};
 ghost use Prim.Native.Nat.{_≤_, _<_};
-ghost use lib.ListN.{drop};
+ghost use lib.ListN.{take, drop};
 ghost use Rattle.paper.specs.Refusals.{refused, classKind};
 ghost use Rattle.paper.specs.Text.{lines};
 ghost use Rattle.paper.specs.Sheet.{section};
 ghost use Rattle.places.specs.Places.{endedLength};
+ghost use Rattle.tables.specs.Numbers.{kindNumber};
+ghost use Rattle.tables.specs.Back.{kindOf};
+ghost use Rattle.classes.specs.Columns.{columnsOf, classIn};
 ghost use Rattle.classes.specs.Read.{takenOf, classRead, classNumber};
 ghost use Rattle.classes.specs.Seen.{seenOf, fitsOf, afterOf, brokenOf};
 ghost use Rattle.classes.specs.Section.{classSection};
@@ -39,6 +42,13 @@ struct Seen {
 pub struct ClassSection {
     pub section: Section,
     pub table: Classes,
+}
+
+// The classes of a table by kind, border and number, as a search wants them.
+pub struct Columns {
+    pub kinds: [u64; 40], // by their numbers
+    pub borders: [u64; 40], // ten-thousandths of a year
+    pub numbers: [u64; 40], // 1..40
 }
 
 // A row of which all was read, or its refusal.
@@ -199,4 +209,63 @@ pub fn class_section(s: &[u8], from: Place, end: Place) -> ClassSection
             rows: rows,
         },
     }
+}
+
+// ---- the class of a security, among the rows of a table
+
+// The kind that a number of the table stands for: each from 3 on is floating.
+fn kind_of(
+    kind: u64, // by its number
+) -> u64
+    ensures { λ r. ⌜ r ≡ kindNumber (kindOf kind) ⌝ }
+{
+    if kind < 3 { kind } else { 3 }
+}
+
+// The columns of a table of C rows.
+pub fn columns_of(classes: Classes) -> Columns
+    ensures { λ r. ⌜ r ≡ columnsOf (classes .rows) ⌝ }
+{
+    let rows = classes.rows;
+    let mut kinds: [u64; 40] = [0; 40]; // by their numbers
+    let mut borders: [u64; 40] = [0; 40]; // ten-thousandths of a year
+    let mut numbers: [u64; 40] = [0; 40]; // of classes
+    let mut i: usize = 0; // rows
+    while i < 40 {
+        let row = rows[i];
+        kinds[i] = kind_of(row.kind);
+        borders[i] = row.border;
+        numbers[i] = row.class;
+        i += 1;
+    }
+    Columns {
+        kinds: kinds,
+        borders: borders,
+        numbers: numbers,
+    }
+}
+
+// The number of the first class of a kind whose border is not below a duration; 0 where there is none.
+pub fn class_of(
+    kinds: &[u64; 40], // by their numbers
+    borders: &[u64; 40], // ten-thousandths of a year
+    numbers: &[u64; 40], // of classes
+    count: usize, // classes
+    kind: u64, // by its number
+    duration: u64, // ten-thousandths of a year
+) -> u64
+    requires { ⌜ count ≤ 40 ⌝ }
+    ensures { λ r. ⌜ r ≡ classIn (take count (now (kinds .entry))) (take count (now (borders .entry))) (take count (now (numbers .entry))) kind duration ⌝ }
+{
+    let kinds: &[u64] = kinds; // as a slice: a proof is told its length
+    let borders: &[u64] = borders; // ten-thousandths of a year
+    let numbers: &[u64] = numbers; // of classes
+    let mut i: usize = 0; // classes
+    while i < count {
+        if (kinds[i] == kind) & (duration <= borders[i]) {
+            return numbers[i];
+        }
+        i += 1;
+    }
+    0
 }

@@ -50,6 +50,8 @@ use Rattle.fields.proofs.is_read.Reads as fields-is-read
 use Rattle.fields.proofs.is_rate.Reads as fields-is-rate
 use Rattle.sections.proofs.goes_on.Reads as sections-goes-on
 use Rattle.classes.proofs.class_section.Reads as classes-class-section
+use Rattle.classes.proofs.columns_of.Reads as classes-columns-of
+use Rattle.classes.proofs.class_of.Reads as classes-class-of
 use Rattle.priorities.proofs.priority_section.Reads as priorities-priority-section
 use Rattle.securities.proofs.security_section.Reads as securities-security-section
 use Rattle.trades.proofs.trade_section.Reads as trades-trade-section
@@ -206,6 +208,12 @@ sections-goes-on-fixed κs a x y s u p q = one p q
 
 pub classes-class-section-fixed : Fixes classes-class-section.Post
 classes-class-section-fixed κs a x y s u p q = one p q
+
+pub classes-columns-of-fixed : Fixes classes-columns-of.Post
+classes-columns-of-fixed κs a x y s u p q = one p q
+
+pub classes-class-of-fixed : Fixes classes-class-of.Post
+classes-class-of-fixed κs a x y s u p q = one p q
 
 pub priorities-priority-section-fixed : Fixes priorities-priority-section.Post
 priorities-priority-section-fixed κs a x y s u p q = one p q

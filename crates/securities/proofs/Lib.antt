@@ -1,6 +1,4 @@
-mod Over
 mod Row
 mod Ranks
 mod Codes
 mod Turns
-mod Classes

@@ -36,7 +36,7 @@ use Rattle.sections.proofs.Loops.{Kept, none-kept, more-kept, Going}
 use Rattle.sections.proofs.Rooms as rooms
 use Rattle.sections.proofs.Rooms.{Room}
 use Rattle.securities.specs.Read.{heldRow, securityRead}
-use Rattle.securities.specs.Classes.{columnsOf, classIn}
+use Rattle.classes.specs.Columns.{columnsOf, classIn}
 use Rattle.tables.specs.Ranks.{rankedOf, insertedAt}
 use Rattle.securities.specs.Ranks.{withRank}
 use Rattle.securities.specs.Section.{Small, brokenOf, securityOf}
@@ -45,7 +45,7 @@ use Rattle.securities.specs.declared.SecurityRead.{SecurityRead}
 use Rattle.securities.specs.declared.SecurityRead.the-variants as reads
 use Rattle.securities.specs.declared.SecuritySection.{SecuritySection}
 use Rattle.tables.specs.declared.Standing.{Standing}
-use Rattle.securities.proofs.Classes.{Classed, class-is, class-given, class-most, table-classed}
+use Rattle.classes.proofs.Looked.{Classed, class-is, class-given, class-most, table-classed}
 use Rattle.securities.proofs.Codes.{lastOf, last-before}
 use Rattle.securities.proofs.Row.{payments-parts}
 use Rattle.securities.proofs.Ranks.{Currencied, moneyOf, rank-place, rank-has, each-there, money-known, money-longer, money-new}

@@ -3,7 +3,7 @@ use Prim.Native.Nat.{ℕ}
 use mathlib.Core.List.{List}
 use Rattle.tables.specs.Ranks.{rankedOf}
 use Rattle.tables.specs.declared.Security.{Security}
-use Rattle.securities.specs.Over.{over}
+use Rattle.tables.specs.Over.{over}
 
 -- A security with the place of its currency, given by its number, among all
 abbrev pub rankedSecurity : List ℕ → ℕ → Security → Security

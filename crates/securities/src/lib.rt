@@ -20,10 +20,8 @@ ghost use Rattle.paper.specs.Refusals.{refused, securityKind};
 ghost use Rattle.paper.specs.Text.{lines};
 ghost use Rattle.paper.specs.Sheet.{section};
 ghost use Rattle.places.specs.Places.{endedLength};
-ghost use Rattle.tables.specs.Numbers.{kindNumber};
-ghost use Rattle.tables.specs.Back.{kindOf, paperClasses, ranged};
+ghost use Rattle.tables.specs.Back.{paperClasses, ranged};
 ghost use Rattle.securities.specs.Read.{takenOf, securityRead, securityNumber};
-ghost use Rattle.securities.specs.Classes.{columnsOf, classIn};
 ghost use Rattle.securities.specs.Ranks.{withRank};
 ghost use Rattle.securities.specs.Section.{securitySection, brokenOf, Small, securityOf};
 
@@ -45,13 +43,6 @@ struct SecurityRow {
 enum SecurityRead {
     Row(SecurityRow, Place),
     Refused(Number),
-}
-
-// The classes of a table by kind, border and number, as a search wants them.
-struct Columns {
-    pub kinds: [u64; 40], // by their numbers
-    pub borders: [u64; 40], // ten-thousandths of a year
-    pub numbers: [u64; 40], // 1..40
 }
 
 // The section: how it went, and its rows; none where it is refused.
@@ -128,63 +119,6 @@ fn security_number(read: SecurityRead) -> Number
         SecurityRead::Row(_, _) => 0,
         SecurityRead::Refused(number) => number,
     }
-}
-
-// The kind that a number of the table stands for: each from 3 on is floating.
-fn kind_of(
-    kind: u64, // by its number
-) -> u64
-    ensures { λ r. ⌜ r ≡ kindNumber (kindOf kind) ⌝ }
-{
-    if kind < 3 { kind } else { 3 }
-}
-
-// The columns of a table of C rows.
-fn columns_of(classes: Classes) -> Columns
-    ensures { λ r. ⌜ r ≡ columnsOf (classes .rows) ⌝ }
-{
-    let rows = classes.rows;
-    let mut kinds: [u64; 40] = [0; 40]; // by their numbers
-    let mut borders: [u64; 40] = [0; 40]; // ten-thousandths of a year
-    let mut numbers: [u64; 40] = [0; 40]; // of classes
-    let mut i: usize = 0; // rows
-    while i < 40 {
-        let row = rows[i];
-        kinds[i] = kind_of(row.kind);
-        borders[i] = row.border;
-        numbers[i] = row.class;
-        i += 1;
-    }
-    Columns {
-        kinds: kinds,
-        borders: borders,
-        numbers: numbers,
-    }
-}
-
-// The number of the first class of a kind whose border is not below a duration; 0 where there is none.
-fn class_of(
-    kinds: &[u64; 40], // by their numbers
-    borders: &[u64; 40], // ten-thousandths of a year
-    numbers: &[u64; 40], // of classes
-    count: usize, // classes
-    kind: u64, // by its number
-    duration: u64, // ten-thousandths of a year
-) -> u64
-    requires { ⌜ count ≤ 40 ⌝ }
-    ensures { λ r. ⌜ r ≡ classIn (take count (now (kinds .entry))) (take count (now (borders .entry))) (take count (now (numbers .entry))) kind duration ⌝ }
-{
-    let kinds: &[u64] = kinds; // as a slice: a proof is told its length
-    let borders: &[u64] = borders; // ten-thousandths of a year
-    let numbers: &[u64] = numbers; // of classes
-    let mut i: usize = 0; // classes
-    while i < count {
-        if (kinds[i] == kind) & (duration <= borders[i]) {
-            return numbers[i];
-        }
-        i += 1;
-    }
-    0
 }
 
 // The rule that a row breaks, 0 where it breaks none: 8 there is room for it and for its currency, 9 its code rises, 11 it has a
@@ -280,7 +214,7 @@ pub fn security_section(
     requires { ⌜ (from ≤ end) × (end ≡ endedLength (now s)) × (now years ≡ newYears) × (classes .count ≤ 40) × (ranged classes ≡ true) ⌝ }
     ensures { λ r. ⌜ r ≡ securitySection (paperClasses classes) (now (s .entry)) from (section (securityKind (paperClasses classes)) (0, lines (drop from (now (s .entry))))) ⌝ }
 {
-    let columns = columns_of(classes);
+    let columns = classes::columns_of(classes);
     let kinds = columns.kinds;
     let borders = columns.borders;
     let numbers = columns.numbers;
@@ -299,7 +233,7 @@ pub fn security_section(
         };
         let above = currencies.numbers;
         let standing = tables::ranked(&above, currencies.count, row.currency);
-        let class = class_of(
+        let class = classes::class_of(
             &kinds,
             &borders,
             &numbers,

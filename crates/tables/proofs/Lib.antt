@@ -3,3 +3,4 @@ pub mod Numbers
 pub mod Backs
 pub mod Places
 mod Codes
+pub mod Over

@@ -3,3 +3,4 @@ pub mod Numbers
 pub mod Held
 pub mod Back
 pub mod Ranks
+pub mod Over

@@ -13,8 +13,8 @@ use Rattle.places.specs.Places.{Place, endedLength}
 use Rattle.sections.specs.Sections.{goesOn}
 use Rattle.sections.proofs.Loops.{goes-before}
 use Rattle.securities.specs.Read.{securityNumber}
-use Rattle.securities.specs.Classes.{classIn}
-use Rattle.securities.specs.declared.Columns.{Columns}
+use Rattle.classes.specs.Columns.{classIn}
+use Rattle.classes.specs.declared.Columns.{Columns}
 use Rattle.tables.specs.declared.Standing.{Standing}
 use Rattle.securities.specs.Section.{brokenOf, securitySection}
 use Rattle.sections.proofs.Rooms.{turn-refused}

@@ -9,7 +9,7 @@ use lib.ListN.{length, getD, take, length-take}
 use Rattle.tables.specs.Held.{noSecurity}
 use Rattle.securities.specs.Ranks.{rankedSecurity, withRank}
 use Rattle.tables.specs.declared.Standing.{Standing}
-use Rattle.securities.proofs.Over.{over-more}
+use Rattle.tables.proofs.Over.{over-more}
 use Rattle.securities.proofs.Ranks.{rank-most}
 use Rattle.securities.proofs.with_ranks.Statement.{statement}
 use Rattle.securities.proofs.with_ranks.Tie as tie

@@ -4,7 +4,7 @@ use native.Mathlib.Omega.{arith}
 use mathlib.Core.List.{List, [], _∷_, map}
 use mathlib.Core.Path.{_≡_, refl, ap}
 use lib.ListN.{length, getD, take, set}
-use Rattle.securities.specs.Over.{over}
+use Rattle.tables.specs.Over.{over}
 
 module _ {A B : Type 0} where
   -- One entry more

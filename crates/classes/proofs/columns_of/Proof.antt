@@ -1,4 +1,4 @@
--- `securities::columns_of` meets its contract. The loop's invariant: each column is written over with the first `i` rows. The
+-- `classes::columns_of` meets its contract. The loop's invariant: each column is written over with the first `i` rows. The
 -- measure is the rows left.
 use Prim.Native.Nat.{ℕ, _+_, _-_, _≤_, _<_}
 use native.Mathlib.Numerals.{add-one}
@@ -12,10 +12,10 @@ use Rattle.tables.specs.Numbers.{kindNumber}
 use Rattle.tables.specs.Back.{kindOf}
 use Rattle.tables.specs.Held.{noClass}
 use Rattle.tables.specs.declared.ClassRow.{ClassRow}
-use Rattle.securities.specs.Over.{over}
-use Rattle.securities.proofs.Over.{over-more, over-all}
-use Rattle.securities.proofs.columns_of.Statement.{statement}
-use Rattle.securities.proofs.columns_of.Tie as tie
+use Rattle.tables.specs.Over.{over}
+use Rattle.tables.proofs.Over.{over-more, over-all}
+use Rattle.classes.proofs.columns_of.Statement.{statement}
+use Rattle.classes.proofs.columns_of.Tie as tie
 
 -- A column written over with so many rows
 abbrev column : (ClassRow → ℕ) → List ClassRow → ℕ → List ℕ → List ℕ

@@ -19,7 +19,7 @@ use Rattle.tables.specs.Numbers.{kindNumber}
 use Rattle.tables.specs.Back.{kindOf, durationOf, paperClass, paperClasses, ranged}
 use Rattle.tables.specs.declared.ClassRow.{ClassRow}
 use Rattle.tables.specs.declared.Classes.{Classes}
-use Rattle.securities.specs.Classes.{columnsOf, classIn}
+use Rattle.classes.specs.Columns.{columnsOf, classIn}
 
 -- A border is not below a duration where its number is not
 not-lower : (b d : Duration) → leb d b ≡ not (ltb b d)

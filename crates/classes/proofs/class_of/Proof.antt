@@ -1,4 +1,4 @@
--- `securities::class_of` meets its contract. The loop's invariant: the class is the one found from `i` on. The measure is the
+-- `classes::class_of` meets its contract. The loop's invariant: the class is the one found from `i` on. The measure is the
 -- classes left.
 use Prim.Native.Nat.{ℕ, _+_, _-_, _≤_, _<_}
 use native.Mathlib.Omega.{arith}
@@ -10,9 +10,9 @@ use lib.ListN.{length, getD, take}
 use lib.Seq.{slice}
 use Rattle.paper.specs.Units.{Class, Duration}
 use Rattle.places.proofs.Parts.{part-step, part-empty}
-use Rattle.securities.specs.Classes.{classIn}
-use Rattle.securities.proofs.class_of.Statement.{statement}
-use Rattle.securities.proofs.class_of.Tie as tie
+use Rattle.classes.specs.Columns.{classIn}
+use Rattle.classes.proofs.class_of.Statement.{statement}
+use Rattle.classes.proofs.class_of.Tie as tie
 
 module _ (kinds : List ℕ) (borders : List Duration) (numbers : List Class) (count kind : ℕ) (duration : Duration) where
   -- The class, looked for from so many on

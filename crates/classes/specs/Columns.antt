@@ -7,7 +7,7 @@ use Rattle.paper.specs.Units.{Class, Duration}
 use Rattle.tables.specs.Numbers.{kindNumber}
 use Rattle.tables.specs.Back.{kindOf}
 use Rattle.tables.specs.declared.ClassRow.{ClassRow}
-use Rattle.securities.specs.declared.Columns.{Columns}
+use Rattle.classes.specs.declared.Columns.{Columns}
 
 -- The kinds, borders and numbers of rows
 abbrev pub columnsOf : List ClassRow → Columns

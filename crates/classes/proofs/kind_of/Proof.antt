@@ -1,11 +1,11 @@
--- `securities::kind_of` meets its contract: the first three kinds have numbers of their own.
+-- `classes::kind_of` meets its contract: the first three kinds have numbers of their own.
 use Prim.Native.Nat.{ℕ, zero, suc, _≤_, _<_}
 use native.Mathlib.Omega.{arith}
 use mathlib.Core.Path.{_≡_, refl}
 use Rattle.tables.specs.Numbers.{kindNumber}
 use Rattle.tables.specs.Back.{kindOf}
-use Rattle.securities.proofs.kind_of.Statement.{statement}
-use Rattle.securities.proofs.kind_of.Tie as tie
+use Rattle.classes.proofs.kind_of.Statement.{statement}
+use Rattle.classes.proofs.kind_of.Tie as tie
 
 own-number : (n : ℕ) → n < 3 → n ≡ kindNumber (kindOf n)
 own-number zero h = refl
