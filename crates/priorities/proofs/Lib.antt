@@ -1,2 +1,1 @@
-mod Row
 mod Turns

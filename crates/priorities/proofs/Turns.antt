@@ -15,7 +15,7 @@ use Rattle.tables.specs.declared.PriorityRow.{PriorityRow}
 use Rattle.tables.specs.declared.Priorities.{Priorities}
 use Rattle.sections.specs.Sections.{broken}
 use Rattle.sections.proofs.Loops.{Kept, more-kept}
-use Rattle.sections.proofs.Rooms.{Room}
+use Rattle.sections.proofs.Rooms.{Room, Judge}
 use Rattle.priorities.specs.Known.{knownFrom, knownOf, brokenOf}
 use Rattle.priorities.specs.declared.PriorityRead.{PriorityRead}
 use Rattle.priorities.specs.declared.PriorityRead.the-variants as reads
@@ -66,3 +66,6 @@ module _ (cs : List paper.ClassRow) where
       ap (λ (known : Bool). elim (ltb (length above) 200) [ false ↦ 8 | true ↦ elim known [ false ↦ 10 | true ↦ 0 ] ])
       (ap₂ _&&_ (known-at 41 0 (o .first) cs (omega (arith, low o own .0)) ∙ ap (hasClass cs) (omega arith))
       (known-at 41 0 (o .second) cs (omega (arith, low o own .1)) ∙ ap (hasClass cs) (omega arith)))
+
+  abbrev pub judge : Judge room (List Bool)
+  judge = record { tell = λ above. knownOf cs; judge = brokenOf; alike = λ sheet at above o kept own. alike above o own; few = few }

@@ -161,6 +161,40 @@ module _ {R A : Type 0} (end : Option R → A) where
       → let n = orHighest (rangedIn lowest most t) in end (numberIn t >>= next) ≡ cond good (cond (isRead n) (then n) (end none)) (end none)
   ranged good lowest most t next then low = joint good (numberIn t) (between lowest most) (λ n. n) next then (ranged-read lowest most t low)
 
+-- ---- a row of three numbers, each from a lowest to a highest
+
+module _ {R H A : Type 0} (kind : RowKind R) (refuse : Number → A) (row : H → Place → A) (held : R → H) (make : ℕ → ℕ → ℕ → R) (l1 h1 l2 h2 l3 h3 : ℕ)
+    (many : kind .many ≡ 4)
+    (reads : (fs : Fields) → kind .read fs ≡ (numberIn (field 1 fs) >>= λ a. numberIn (field 2 fs) >>= λ b. numberIn (field 3 fs) >>= λ c. some (make a b c)))
+    (owns : (a b c : ℕ) → kind .own (make a b c) ≡ (6, between l1 h1 a && between l2 h2 b && between l3 h3 c) ∷ [])
+    (s1 : h1 < highest) (s2 : h2 < highest) (s3 : h3 < highest) where
+  -- By the texts of its fields, one field after the other
+  three-fields : (fs : Fields) (next : Place)
+      → let a = orHighest (rangedIn l1 h1 (field 1 fs)) in
+      let b = orHighest (rangedIn l2 h2 (field 2 fs)) in
+      let c = orHighest (rangedIn l3 h3 (field 3 fs)) in
+      closed refuse (λ r. row (held r) next) (kind .own) (kind .read fs) ≡ cond (isRead a && isRead b && isRead c) (row (held (make a b c)) next) (refuse 6)
+  three-fields fs next =
+      let end : Option R → A = closed refuse (λ r. row (held r) next) (kind .own) in
+      ap end (reads fs)
+      ∙ ranged end true l1 h1 (field 1 fs) _ _ s1 (λ a.
+      ranged end (between l1 h1 a) l2 h2 (field 2 fs) _ _ s2 λ b.
+      ranged end (between l1 h1 a && between l2 h2 b) l3 h3 (field 3 fs) _ (λ c. row (held (make a b c)) next) s3 λ c.
+      ap (λ (rules : List Rule). told refuse (λ r. row (held r) next) (judged 0 (make a b c) rules)) (owns a b c)
+      ∙ one-rule refuse (λ r. row (held r) next) 6 (make a b c) (between l1 h1 a && between l2 h2 b && between l3 h3 c))
+      ∙ sym (rw (split, split))
+
+  -- By what was read of its fields and whether anything was
+  pub three-there : (s : Text) (at : Place) (line : Line) → Lined s at line 4 → {a b c : ℕ} {p q r : Bool}
+      → a ≡ orHighest (rangedIn l1 h1 (fieldText s (line .ends) 0)) → b ≡ orHighest (rangedIn l2 h2 (fieldText s (line .ends) 1))
+      → c ≡ orHighest (rangedIn l3 h3 (fieldText s (line .ends) 2)) → p ≡ isRead a → q ≡ isRead b → r ≡ isRead c
+      → cond (p && q && r) (row (held (make a b c)) (line .next)) (refuse 6) ≡ told refuse (λ r. row (held r) (lineAt s at .next)) (shaped kind (fieldsAt s at))
+  three-there s at line l e1 e2 e3 f1 f2 f3 =
+      sym
+      (so-many refuse (λ r. row (held r) (lineAt s at .next)) kind (fieldsAt s at) (l .count ∙ sym many)
+      ∙ three-fields (fieldsAt s at) (lineAt s at .next)
+      ∙ rw (l .parts 0 (omega arith), l .parts 1 (omega arith), l .parts 2 (omega arith), f1, f2, f3, e3, e2, e1, l .same))
+
 -- ---- a border or duration
 
 -- A blank is no number

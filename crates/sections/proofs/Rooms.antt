@@ -1,12 +1,15 @@
 -- A section's loop, turn by turn: the table has the rows above, a line that is refused refuses the section, and a row that breaks no
 -- rule is put into the table. Said once, over what a section's room has.
 use Prim.Native.Nat.{ℕ, _+_, _≤_, _<_}
-use mathlib.Core.Bool.{true, false}
+use native.Mathlib.Omega.{arith}
+use mathlib.Core.Bool.{Bool, true, false}
 use mathlib.Core.List.{List, [], _∷_, reverse}
 use mathlib.Core.Path.{_≡_, refl, sym, ap, _∙_}
+use lib.Dec as dec
 use lib.ListN.{length, set, length-reverse}
 use Rattle.paper.specs.Units.{Byte, Text}
 use Rattle.paper.specs.Refusals.{RowKind}
+use Rattle.paper.specs.Tables.{hold}
 use Rattle.paper.proofs.Outcomes.{numbered}
 use Rattle.places.specs.Places.{Place, endedLength, lineAt}
 use Rattle.tables.specs.Padded.{tableOf}
@@ -104,3 +107,62 @@ module _ {R A H K S T : Type 0} (room : Room R A H K S T) where
     turn-ended off {x} is =
         result-ended (room .kind) sheet from (room .make) (room .table) (t .going)
         (going-ended (room .kind) (room .numbers) (room .letter) (room .its-letter) (t .going) off) x is
+
+-- What a section keeps of the rows above, and how the code judges a row by it: as the paper does, and no more rows than there is room for
+pub record Judge {R A H K S T : Type 0} (room : Room R A H K S T) (Z : Type 0) : Type 0 where
+  pub tell : List R → Z
+  pub judge : Z → ℕ → H → ℕ
+  pub alike : (sheet : Text) (at : Place) (above : List R) (r : R) → Kept (room .kind) above → dec.T (hold (room .kind .own r))
+      → judge (tell above) (length above) (room .held sheet at r) ≡ broken (room .kind .others above r)
+  pub few : {above : List R} {r : R} → Kept (room .kind) (r ∷ above) → length above < room .most
+
+module _ {R A H K S T Z : Type 0} {room : Room R A H K S T} (judge : Judge room Z) where
+  -- After so many rows, with what is kept of them
+  pub record Told (sheet : Text) (from : Place) (rows : List K) (count : ℕ) (at : Place) (seen : Z) : Type 0 where
+    pub turn : Turn room sheet from rows count at
+    pub seen-is : seen ≡ judge .tell (turn .above)
+
+  module _ {sheet : Text} {from : Place} {rows : List K} {count : ℕ} {at : Place} {seen : Z} (t : Told sheet from rows count at seen) where
+    -- A row that was read, and what becomes of it as it is judged
+    pub record Taken (h : H) (next : Place) : Type 0 where
+      pub row-is : R
+      pub held-is : room .held sheet at row-is ≡ h
+      pub own : dec.T (hold (room .kind .own row-is))
+      pub further : (at < next) × (next ≤ endedLength sheet)
+      pub refuses : (number : ℕ) → number ≡ judge .judge seen count h → (number ≡ 0 → ⊥) → refusedWith room number count ≡ result room sheet from
+      pub free : (number : ℕ) → number ≡ judge .judge seen count h → number ≡ 0 → count < room .most
+      pub more : (number : ℕ) → number ≡ judge .judge seen count h → number ≡ 0 → (k : K) → k ≡ room .kept row-is
+          → (z : Z) → z ≡ judge .tell (row-is ∷ t .turn .above) → Told sheet from (set rows count k) (count + 1) next z
+
+    -- By what the loop's test says
+    module _ {end : Place} (ends : end ≡ endedLength sheet) {on : Bool} (goes : on ≡ goesOn sheet at end (room .letter)) where
+      tested : goesOn sheet at (endedLength sheet) (room .letter) ≡ on
+      tested = ap (λ (n : Place). goesOn sheet at n (room .letter)) (sym ends) ∙ sym goes
+
+      pub told-ended : on ≡ false → {x : T} → x ≡ room .table (reverse (t .turn .above))
+          → room .make (record { refusal = 0; count = count; next = at }) x ≡ result room sheet from
+      told-ended off = turn-ended room (t .turn) (tested ∙ off)
+
+      module _ (yes : on ≡ true) {read : A} (is : read ≡ readAt room sheet at) where
+        pub told-refused : {number : ℕ} → read ≡ room .refuse number → refusedWith room number count ≡ result room sheet from
+        told-refused {number} e = turn-refused room (t .turn) (tested ∙ yes) number (sym is ∙ e)
+
+        pub told-row : {h : H} {next : Place} → read ≡ room .row h next → Taken h next
+        told-row {h} {next} e =
+            let r = turn-row room (t .turn) (tested ∙ yes) h next (sym is ∙ e) in
+            let same : judge .judge seen count h ≡ broken (room .kind .others (t .turn .above) (r .row-is)) =
+            (λ i. judge .judge (t .seen-is i) (t .turn .going .counted i) (sym (r .held-is) i)) ∙ judge .alike sheet at (t .turn .above) (r .row-is) (t .turn .going .kept) (r .own)
+            in
+            let room-for : (number : ℕ) → number ≡ judge .judge seen count h → number ≡ 0 → count < room .most = λ number j n.
+            omega (arith, t .turn .going .counted, judge .few (turn-kept room (t .turn) (tested ∙ yes) r (j ∙ same) n))
+            in
+            record {
+              row-is = r .row-is;
+              held-is = r .held-is;
+              own = r .own;
+              further = r .further;
+              refuses = λ number j. turn-broken room (t .turn) (tested ∙ yes) r (j ∙ same);
+              free = room-for;
+              more = λ number j n k keeps z tells.
+                  record { turn = turn-more room (t .turn) (tested ∙ yes) r (j ∙ same) n (room-for number j n) keeps; seen-is = tells };
+            }

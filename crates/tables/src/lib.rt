@@ -6,7 +6,7 @@ ghost use Prim.Native.Nat.{_≤_, _<_};
 ghost use lib.ListN.{take};
 ghost use Rattle.tables.specs.Numbers.{numberPlace};
 ghost use Rattle.tables.specs.Ranks.{Searchable, rankedOf, insertedAt};
-ghost use Rattle.tables.specs.Held.{noClass, noPriority, noSecurity, noTrade, noTables, classTable, priorityTable, currencyTable, securityTable, tradeTable, heldTables};
+ghost use Rattle.tables.specs.Held.{noSecurity, noTables, classTable, priorityTable, currencyTable, securityTable, tradeTable, heldTables};
 
 pub type Code = u64; // a code as one number, which orders as its bytes do
 
@@ -99,28 +99,7 @@ pub struct Tables {
     pub trades: Trades,
 }
 
-// What stands where a table has no row.
-fn no_class() -> ClassRow
-    ensures { λ r. ⌜ r ≡ noClass ⌝ }
-{
-    ClassRow {
-        class: 0,
-        kind: 0,
-        border: 0,
-        deposit: 0,
-    }
-}
-
-fn no_priority() -> PriorityRow
-    ensures { λ r. ⌜ r ≡ noPriority ⌝ }
-{
-    PriorityRow {
-        first: 0,
-        second: 0,
-        factor: 0,
-    }
-}
-
+// What stands where the table of securities has no row.
 pub fn no_security() -> Security
     ensures { λ r. ⌜ r ≡ noSecurity ⌝ }
 {
@@ -135,38 +114,33 @@ pub fn no_security() -> Security
     }
 }
 
-fn no_trade() -> Trade
-    ensures { λ r. ⌜ r ≡ noTrade ⌝ }
-{
-    Trade {
-        amount: 0,
-        rate: 0,
-        nominal: 0,
-        first: 0,
-        accrual: 0,
-        security: 0,
-        trade: 0,
-        side: 0,
-        margined: false,
-    }
-}
-
 // Tables without rows.
 pub fn no_classes() -> Classes
     ensures { λ r. ⌜ r ≡ classTable [] ⌝ }
 {
+    let none = ClassRow {
+        class: 0,
+        kind: 0,
+        border: 0,
+        deposit: 0,
+    };
     Classes {
         count: 0, // C rows
-        rows: [no_class(); 40],
+        rows: [none; 40],
     }
 }
 
 pub fn no_priorities() -> Priorities
     ensures { λ r. ⌜ r ≡ priorityTable [] ⌝ }
 {
+    let none = PriorityRow {
+        first: 0,
+        second: 0,
+        factor: 0,
+    };
     Priorities {
         count: 0, // O rows
-        rows: [no_priority(); 200],
+        rows: [none; 200],
     }
 }
 
@@ -193,9 +167,20 @@ pub fn no_securities() -> Securities
 pub fn no_trades() -> Trades
     ensures { λ r. ⌜ r ≡ tradeTable 0 [] [] ⌝ }
 {
+    let none = Trade {
+        amount: 0,
+        rate: 0,
+        nominal: 0,
+        first: 0,
+        accrual: 0,
+        security: 0,
+        trade: 0,
+        side: 0,
+        margined: false,
+    };
     Trades {
         count: 0, // T rows
-        rows: [no_trade(); 500],
+        rows: [none; 500],
     }
 }
 

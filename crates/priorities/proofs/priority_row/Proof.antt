@@ -1,16 +1,15 @@
 -- `priorities::priority_row` meets its contract: its three fields are read, and then joined.
 use Prim.Native.Nat.{ℕ, _+_, _<_}
 use native.Mathlib.Omega.{arith}
-use mathlib.Core.Path.{sym, _∙_}
+use mathlib.Core.Path.{refl, sym, _∙_}
 use borrow.Author.Needs.{needs}
 use mathlib.Core.List.{[]}
 use Rattle.paper.specs.Refusals.{priorityKind}
 use Rattle.places.specs.Places.{lineAt, Stands}
 use Rattle.tables.specs.Held.{heldPriority}
 use Rattle.sections.specs.Sections.{fieldsAt}
-use Rattle.sections.proofs.Reading.{Lined, line-asked, counted, lined, not-many}
+use Rattle.sections.proofs.Reading.{Lined, line-asked, counted, lined, not-many, from-zero, three-there}
 use Rattle.priorities.specs.declared.PriorityRead.the-variants as reads
-use Rattle.priorities.proofs.Row.{priority-there}
 use Rattle.priorities.proofs.priority_row.Statement.{statement}
 use Rattle.priorities.proofs.priority_row.Tie as tie
 
@@ -40,7 +39,9 @@ returns-2 c =
     let second = factor .before .before in
     let first = second .before .before in
     c .taken .ensures
-    ∙ priority-there _ _ _ (its-line (first .before .before .before))
+    ∙ three-there (priorityKind []) reads.Refused (λ o next. reads.Row o next) heldPriority (λ first second factor. record { first = first; second = second; factor = factor })
+    1 40 1 40 0 10_000 refl (λ fs. refl) (λ first second factor. rw (from-zero 10_000 factor)) (omega arith) (omega arith) (omega arith)
+    _ _ _ (its-line (first .before .before .before))
     (first .number-at .ensures) (second .number-at2 .ensures) (factor .number-at3 .ensures)
     (tests .before .before .is-read .ensures) (tests .before .is-read2 .ensures) (tests .is-read3 .ensures)
 
