@@ -118,11 +118,11 @@ pub record Judge {R A H K S T : Type 0} (room : Room R A H K S T) (Z : Type 0) :
 
 module _ {R A H K S T Z : Type 0} {room : Room R A H K S T} (judge : Judge room Z) where
   -- After so many rows, with what is kept of them
-  pub record Told (sheet : Text) (from : Place) (rows : List K) (count : ℕ) (at : Place) (seen : Z) : Type 0 where
+  pub record Judging (sheet : Text) (from : Place) (rows : List K) (count : ℕ) (at : Place) (seen : Z) : Type 0 where
     pub turn : Turn room sheet from rows count at
     pub seen-is : seen ≡ judge .tell (turn .above)
 
-  module _ {sheet : Text} {from : Place} {rows : List K} {count : ℕ} {at : Place} {seen : Z} (t : Told sheet from rows count at seen) where
+  module _ {sheet : Text} {from : Place} {rows : List K} {count : ℕ} {at : Place} {seen : Z} (t : Judging sheet from rows count at seen) where
     -- A row that was read, and what becomes of it as it is judged
     pub record Taken (h : H) (next : Place) : Type 0 where
       pub row-is : R
@@ -132,23 +132,23 @@ module _ {R A H K S T Z : Type 0} {room : Room R A H K S T} (judge : Judge room 
       pub refuses : (number : ℕ) → number ≡ judge .judge seen count h → (number ≡ 0 → ⊥) → refusedWith room number count ≡ result room sheet from
       pub free : (number : ℕ) → number ≡ judge .judge seen count h → number ≡ 0 → count < room .most
       pub more : (number : ℕ) → number ≡ judge .judge seen count h → number ≡ 0 → (k : K) → k ≡ room .kept row-is
-          → (z : Z) → z ≡ judge .tell (row-is ∷ t .turn .above) → Told sheet from (set rows count k) (count + 1) next z
+          → (z : Z) → z ≡ judge .tell (row-is ∷ t .turn .above) → Judging sheet from (set rows count k) (count + 1) next z
 
     -- By what the loop's test says
     module _ {end : Place} (ends : end ≡ endedLength sheet) {on : Bool} (goes : on ≡ goesOn sheet at end (room .letter)) where
       tested : goesOn sheet at (endedLength sheet) (room .letter) ≡ on
       tested = ap (λ (n : Place). goesOn sheet at n (room .letter)) (sym ends) ∙ sym goes
 
-      pub told-ended : on ≡ false → {x : T} → x ≡ room .table (reverse (t .turn .above))
+      pub judging-ended : on ≡ false → {x : T} → x ≡ room .table (reverse (t .turn .above))
           → room .make (record { refusal = 0; count = count; next = at }) x ≡ result room sheet from
-      told-ended off = turn-ended room (t .turn) (tested ∙ off)
+      judging-ended off = turn-ended room (t .turn) (tested ∙ off)
 
       module _ (yes : on ≡ true) {read : A} (is : read ≡ readAt room sheet at) where
-        pub told-refused : {number : ℕ} → read ≡ room .refuse number → refusedWith room number count ≡ result room sheet from
-        told-refused {number} e = turn-refused room (t .turn) (tested ∙ yes) number (sym is ∙ e)
+        pub judging-refused : {number : ℕ} → read ≡ room .refuse number → refusedWith room number count ≡ result room sheet from
+        judging-refused {number} e = turn-refused room (t .turn) (tested ∙ yes) number (sym is ∙ e)
 
-        pub told-row : {h : H} {next : Place} → read ≡ room .row h next → Taken h next
-        told-row {h} {next} e =
+        pub judging-row : {h : H} {next : Place} → read ≡ room .row h next → Taken h next
+        judging-row {h} {next} e =
             let r = turn-row room (t .turn) (tested ∙ yes) h next (sym is ∙ e) in
             let same : judge .judge seen count h ≡ broken (room .kind .others (t .turn .above) (r .row-is)) =
             (λ i. judge .judge (t .seen-is i) (t .turn .going .counted i) (sym (r .held-is) i)) ∙ judge .alike sheet at (t .turn .above) (r .row-is) (t .turn .going .kept) (r .own)

@@ -13,14 +13,14 @@ use Rattle.classes.specs.Read.{classNumber}
 use Rattle.classes.specs.Seen.{afterOf}
 use Rattle.classes.specs.declared.Seen.{Seen}
 use Rattle.classes.specs.Section.{classSection}
-use Rattle.sections.proofs.Rooms.{turn-start, turn-counted, Told, Taken, told-refused, told-row, told-ended}
+use Rattle.sections.proofs.Rooms.{turn-start, turn-counted, Judging, Taken, judging-refused, judging-row, judging-ended}
 use Rattle.classes.proofs.Rising.{border-most}
 use Rattle.classes.proofs.Turns.{room, formed, judge}
 use Rattle.classes.proofs.class_section.Statement.{statement}
 use Rattle.classes.proofs.class_section.Tie as tie
 
 abbrev Inv-loop : tie.InvT-loop
-Inv-loop s from end rows₀ count₀ at₀ seen₀ rows count at seen = Told judge s from rows count at seen
+Inv-loop s from end rows₀ count₀ at₀ seen₀ rows count at seen = Judging judge s from rows count at seen
 
 abbrev μ-loop : tie.MeasureT-loop
 μ-loop s from end rows₀ count₀ at₀ seen₀ rows count at seen = end - at
@@ -49,7 +49,7 @@ returns c =
     let read = c .before .before .enum-told .given .1 in
     c .refused .ensures
     ∙ ap (λ (n : ℕ). classSection [] 0 (refused n (l .loop .count))) (c .before .class-number .ensures ∙ ap classNumber read)
-    ∙ told-refused judge (l .loop .inv) (start l .pre .1) (t .before .goes-on .ensures) (t .if1 .taken) (r .class-row .ensures) read
+    ∙ judging-refused judge (l .loop .inv) (start l .pre .1) (t .before .goes-on .ensures) (t .if1 .taken) (r .class-row .ensures) read
 
 -- A row that was read is one of the paper's
 abbrev loop : tie.After-known-told Inv-loop μ-loop → tie.At-loop Inv-loop μ-loop
@@ -58,7 +58,7 @@ loop c = c .before .before .before .before .before .before
 there : (c : tie.After-known-told Inv-loop μ-loop) → Taken judge (loop c .loop .inv) (c .before .read .given .0 .0) (c .before .read .given .0 .1 .0)
 there c =
     let r = c .before .before .before in
-    told-row judge (loop c .loop .inv) (start (loop c) .pre .1) (r .before .before .goes-on .ensures) (r .before .if1 .taken) (r .class-row .ensures) (c .before .read .given .1)
+    judging-row judge (loop c .loop .inv) (start (loop c) .pre .1) (r .before .before .goes-on .ensures) (r .before .if1 .taken) (r .class-row .ensures) (c .before .read .given .1)
 
 broken-requires : tie.Need-broken-requires Inv-loop μ-loop
 broken-requires c κs = rw (sym (there c .held-is)) (kind-below (there c .row-is .kind))
@@ -93,7 +93,7 @@ returns-3 c =
     let l = c .before .before in
     let t = l .loop .inv .turn in
     let many = turn-counted room t in
-    told-ended judge (l .loop .inv) (start l .pre .1) (c .before .goes-on .ensures) (c .if1 .left) (λ i. record { count = many i; rows = t .table-is i })
+    judging-ended judge (l .loop .inv) (start l .pre .1) (c .before .goes-on .ensures) (c .if1 .left) (λ i. record { count = many i; rows = t .table-is i })
 
 pub class-section-spec : {M : Type 1} → statement M
 class-section-spec =

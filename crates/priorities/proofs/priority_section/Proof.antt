@@ -12,13 +12,13 @@ use Rattle.sections.proofs.Loops.{goes-before}
 use Rattle.priorities.specs.Read.{priorityNumber}
 use Rattle.priorities.specs.Known.{knownOf}
 use Rattle.priorities.specs.Section.{prioritySection}
-use Rattle.sections.proofs.Rooms.{turn-start, turn-counted, Told, Taken, told-refused, told-row, told-ended}
+use Rattle.sections.proofs.Rooms.{turn-start, turn-counted, Judging, Taken, judging-refused, judging-row, judging-ended}
 use Rattle.priorities.proofs.Turns.{room, low, judge}
 use Rattle.priorities.proofs.priority_section.Statement.{statement}
 use Rattle.priorities.proofs.priority_section.Tie as tie
 
 abbrev Inv-loop : tie.InvT-loop
-Inv-loop s from end known rows₀ count₀ at₀ rows count at = (cs : List ClassRow) → known ≡ knownOf cs → Told (judge cs) s from rows count at known
+Inv-loop s from end known rows₀ count₀ at₀ rows count at = (cs : List ClassRow) → known ≡ knownOf cs → Judging (judge cs) s from rows count at known
 
 abbrev μ-loop : tie.MeasureT-loop
 μ-loop s from end known rows₀ count₀ at₀ rows count at = end - at
@@ -37,7 +37,7 @@ classes c = paperClasses (start c .args .classes)
 
 -- The turn that a test of the loop begins
 turned : (c : tie.At-loop Inv-loop μ-loop)
-    → Told (judge (classes c)) (start c .args .s .now) (start c .args .from) (c .loop .rows) (c .loop .count) (c .loop .at) (c .before .before .before .known-classes .result)
+    → Judging (judge (classes c)) (start c .args .s .now) (start c .args .from) (c .loop .rows) (c .loop .count) (c .loop .at) (c .before .before .before .known-classes .result)
 turned c = c .loop .inv (classes c) (c .before .before .before .known-classes .ensures)
 
 goes-on-requires : tie.Need-goes-on-requires Inv-loop μ-loop
@@ -54,7 +54,7 @@ returns c =
     let read = c .before .before .enum-told .given .1 in
     c .refused .ensures
     ∙ ap (λ (n : ℕ). prioritySection [] 0 (refused n (l .loop .count))) (c .before .priority-number .ensures ∙ ap priorityNumber read)
-    ∙ told-refused (judge (classes l)) (turned l) (start l .pre .1) (t .before .goes-on .ensures) (t .if1 .taken) (r .priority-row .ensures) read
+    ∙ judging-refused (judge (classes l)) (turned l) (start l .pre .1) (t .before .goes-on .ensures) (t .if1 .taken) (r .priority-row .ensures) read
 
 -- A row that was read is one of the paper's, whatever C rows the known classes are those of
 abbrev loop : tie.After-known Inv-loop μ-loop → tie.At-loop Inv-loop μ-loop
@@ -64,7 +64,7 @@ there : (c : tie.After-known Inv-loop μ-loop) (cs : List ClassRow) (known : loo
     → Taken (judge cs) (loop c .loop .inv cs known) (c .before .before .read .given .0 .0) (c .before .before .read .given .0 .1 .0)
 there c cs known =
     let r = c .before .before .before .before in
-    told-row (judge cs) (loop c .loop .inv cs known) (start (loop c) .pre .1) (r .before .before .goes-on .ensures) (r .before .if1 .taken) (r .priority-row .ensures)
+    judging-row (judge cs) (loop c .loop .inv cs known) (start (loop c) .pre .1) (r .before .before .goes-on .ensures) (r .before .if1 .taken) (r .priority-row .ensures)
     (c .before .before .read .given .1)
 
 -- The C rows of the table are such
@@ -97,7 +97,7 @@ returns-3 c =
     let l = c .before .before in
     let t = turned l .turn in
     let many = turn-counted (room (classes l)) t in
-    told-ended (judge (classes l)) (turned l) (start l .pre .1) (c .before .goes-on .ensures) (c .if1 .left) (λ i. record { count = many i; rows = t .table-is i })
+    judging-ended (judge (classes l)) (turned l) (start l .pre .1) (c .before .goes-on .ensures) (c .if1 .left) (λ i. record { count = many i; rows = t .table-is i })
 
 pub priority-section-spec : {M : Type 1} → statement M
 priority-section-spec =
