@@ -1,13 +1,32 @@
-// A sheet to its report on any computer with Node: node forecast.mjs FILE, or node forecast.mjs < FILE.
-// Text and exit status are those of ./forecast: 0 a report, 1 a refusal, 2 the sheet cannot be read.
+// A sheet to its report on any computer with Node: node forecast.mjs FILE, or node forecast.mjs < FILE. With
+// --why CURRENCY CLASS before FILE: why the margin of that class in that currency is what it is.
+// Text and exit status are those of ./forecast: 0 a report or an explanation, 1 a refusal, 2 wrong words or a sheet that
+// cannot be read.
 import { createReadStream, fstatSync, statSync } from 'node:fs';
 import { readFile } from 'node:fs/promises';
 import { load } from './kit.js';
 
 // One byte more than a sheet may have is enough to see that it is too long
 const MOST = 65537; // bytes
+const HIGHEST = 2n ** 64n - 1n; // the highest class that the kit can be asked for; no sheet has it
 
 class Failure extends Error {}
+
+// What the words ask for: a question or none, and a file or none
+function asked(words) {
+    const question = words[0] === '--why' ? words.slice(1, 3) : undefined;
+    const files = question ? words.slice(3) : words;
+    if (files.length > 1 || question?.length < 2) {
+        throw new Failure('one sheet at a time: node forecast.mjs [--why CURRENCY CLASS] FILE, or the same < FILE');
+    }
+    return { question, file: files[0] };
+}
+
+// A class is written as numbers are on the sheet. Any other word, and a number beyond 64 bits, is a class that no sheet has
+function classOf(word) {
+    const number = /^(0|[1-9][0-9]*)$/.test(word) ? BigInt(word) : HIGHEST;
+    return number < HIGHEST ? number : HIGHEST;
+}
 
 // Node takes a folder on standard input for an empty sheet. Not every system tells what stands there; then it is read
 function folderOnInput() {
@@ -43,17 +62,19 @@ async function kit() {
     }
 }
 
-function answer(kit, sheet) {
+function answer(kit, sheet, question) {
     try {
-        return kit.margin(sheet);
+        if (question === undefined) return kit.margin(sheet);
+        const [currency, word] = question;
+        return kit.explain(sheet, new TextEncoder().encode(currency), classOf(word));
     } catch {
         throw new Failure('the program stopped');
     }
 }
 
 async function forecast(words) {
-    if (words.length > 1) throw new Failure('one sheet at a time: node forecast.mjs FILE, or node forecast.mjs < FILE');
-    const { report, number, line } = answer(await kit(), await read(words[0]));
+    const { question, file } = asked(words);
+    const { report, number, line } = answer(await kit(), await read(file), question);
     // The status is set and not exited with, so that a pipe gets all of the text
     process.exitCode = report ? 0 : 1;
     process.stdout.write(report ?? `N;${number};${line}\n`);

@@ -1,9 +1,10 @@
-// The kit in any browser and in Node: a sheet's bytes in, an answer out. This is the one place that knows the memory of
-// kit.wasm; it needs that module and nothing else.
+// The kit in any browser and in Node: a sheet's bytes in, an answer out, and so for a question about the sheet. This is the one
+// place that knows the memory of kit.wasm; it needs that module and nothing else.
 
 const ROOM = 32768; // bytes, a buffer that holds the report of any sheet
 const PAGE = 65536; // bytes, by which the memory grows
-const REFUSAL = 65536; // an answer below it is a report's length, any other is REFUSAL × number + line
+const REFUSAL = 65536; // an answer below it is a text's length, any other is REFUSAL × number + line
+const NONE = new Uint8Array(0);
 
 /** The kit, from kit.wasm: its bytes, or its WebAssembly.Module. */
 export async function load(wasm) {
@@ -12,50 +13,78 @@ export async function load(wasm) {
 }
 
 class Kit {
-    #entry;
+    #entries;
     #stopped = false;
 
     constructor({ exports }) {
-        this.#entry = exports.brm_margin;
+        this.#entries = { margin: exports.brm_margin, explain: exports.brm_explain };
         this.memory = exports.memory;
         this.base = exports.__heap_base.value; // bytes, where the module's own part of the memory ends
     }
 
     /** The answer to a sheet: { report }, its bytes, or { number, line } of the refusal. The room is in bytes. */
     margin(sheet, room = ROOM) {
-        if (!Number.isSafeInteger(room) || room < 0) {
-            throw new TypeError(`the room for the report is a whole number of bytes, not ${told(room)}`);
-        }
-        const { answer, lent } = this.#call(sheet, room, () => {});
-        if (answer < REFUSAL) return { report: lent().slice(0, answer) };
-        return { number: Math.floor(answer / REFUSAL), line: answer % REFUSAL };
+        return this.#answer({ sheet }, room);
+    }
+
+    /**
+     * Why the margin of a class in a currency is what it is: { report }, the explanation's bytes, or { number, line }. The
+     * currency is any bytes, the class any whole number of 64 bits, as a number or a BigInt.
+     */
+    explain(sheet, currency, classNumber, room = ROOM) {
+        return this.#answer(question(sheet, currency, classNumber), room);
     }
 
     /** As a caller in C has it: the report buffer is lent with what stands in it, and the one number comes back. */
     call(sheet, report) {
+        return this.#lend({ sheet }, report);
+    }
+
+    /** The same for an explanation. */
+    callExplain(sheet, currency, classNumber, report) {
+        return this.#lend(question(sheet, currency, classNumber), report);
+    }
+
+    /** Where sheet, currency, report buffer and what is free behind it begin for a call, in bytes of the memory. */
+    places(sheetLength, room, currencyLength = 0) {
+        const behind = (place, length) => place + Math.ceil(length / 16) * 16;
+        const currency = behind(this.base, sheetLength);
+        const report = behind(currency, currencyLength);
+        return { sheet: this.base, currency, report, free: report + room };
+    }
+
+    #answer(asked, room) {
+        if (!Number.isSafeInteger(room) || room < 0) {
+            throw new TypeError(`the room for the report is a whole number of bytes, not ${told(room)}`);
+        }
+        const { answer, lent } = this.#call(asked, room, () => {});
+        if (answer < REFUSAL) return { report: lent().slice(0, answer) };
+        return { number: Math.floor(answer / REFUSAL), line: answer % REFUSAL };
+    }
+
+    #lend(asked, report) {
         bytes('report buffer', report);
-        const { answer, lent } = this.#call(sheet, report.length, (room) => room.set(report));
+        const { answer, lent } = this.#call(asked, report.length, (room) => room.set(report));
         report.set(lent());
         return answer;
     }
 
-    /** Where the sheet, the report buffer and what is free behind it begin for a call, in bytes of the memory. */
-    places(sheetLength, room) {
-        const report = this.base + Math.ceil(sheetLength / 16) * 16;
-        return { sheet: this.base, report, free: report + room };
-    }
-
-    #call(sheet, room, fill) {
+    // Without a class it is the report that is asked for
+    #call({ sheet, currency = NONE, classNumber }, room, fill) {
         bytes('sheet', sheet);
         if (this.#stopped) throw new Error('the kit was stopped in an earlier call: load it again');
-        const at = this.places(sheet.length, room);
+        const at = this.places(sheet.length, room, currency.length);
         this.#reach(at.free);
         // The memory is asked for anew each time, since growing puts another buffer in its place
         const part = (from, length) => new Uint8Array(this.memory.buffer, from, length);
         part(at.sheet, sheet.length).set(sheet);
+        part(at.currency, currency.length).set(currency);
         fill(part(at.report, room));
+        const lengths = [sheet.length, currency.length, room].map(BigInt);
         this.#stopped = true; // unless the call comes back: after a trap the stack is not as it was
-        const answer = this.#entry(at.sheet, BigInt(sheet.length), at.report, BigInt(room));
+        const answer = classNumber === undefined
+            ? this.#entries.margin(at.sheet, lengths[0], at.report, lengths[2])
+            : this.#entries.explain(at.sheet, lengths[0], at.currency, lengths[1], classNumber, at.report, lengths[2]);
         this.#stopped = false;
         return { answer: Number(BigInt.asUintN(64, answer)), lent: () => part(at.report, room) };
     }
@@ -71,12 +100,21 @@ class Kit {
     }
 }
 
+function question(sheet, currency, classNumber) {
+    bytes('currency', currency);
+    const whole = typeof classNumber === 'bigint' || Number.isSafeInteger(classNumber);
+    if (!whole || BigInt.asUintN(64, BigInt(classNumber)) !== BigInt(classNumber)) {
+        throw new TypeError(`the class is a whole number of 64 bits, not ${told(classNumber)}`);
+    }
+    return { sheet, currency, classNumber: BigInt(classNumber) };
+}
+
 function bytes(what, value) {
     if (!(value instanceof Uint8Array)) throw new TypeError(`the ${what} is a Uint8Array, not ${told(value)}`);
 }
 
 /** What a value is, in a word or two. */
 function told(value) {
-    if (typeof value === 'number') return String(value);
+    if (typeof value === 'number' || typeof value === 'bigint') return String(value);
     return Object.prototype.toString.call(value).slice(8, -1);
 }

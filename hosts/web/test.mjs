@@ -1,4 +1,4 @@
-// kit.wasm in Node by kit.js, held to the written cases and to the plain implementation's answers:
+// kit.wasm in Node by kit.js, reports and explanations, held to the written cases and to the plain implementation's answers:
 // node hosts/web/test.mjs ANSWERS, a file that hosts/rust's program `answers` wrote.
 import assert from 'node:assert/strict';
 import { readdirSync, readFileSync, existsSync } from 'node:fs';
@@ -22,9 +22,11 @@ function same(got, expected, what) {
     assert.fail(`${what}: byte ${at} is ${got[at]} and not ${expected[at]}, of ${got.length} and ${expected.length}`);
 }
 
-// One call, and after it every byte of the lent buffer and of the memory: the sheet, the buffer, and all behind it
-function hold(name, sheet, room, answer, report) {
-    const at = kit.places(sheet.length, room);
+// One call, and after it every byte of the lent buffer and of the memory: sheet, currency, buffer, and all about them. With a
+// question, { currency, classNumber }, it is an explanation that is asked for
+function hold(name, sheet, room, answer, report, question) {
+    const currency = question?.currency ?? none;
+    const at = kit.places(sheet.length, room, currency.length);
     const lacking = at.free + PAGE - kit.memory.buffer.byteLength; // bytes
     if (lacking > 0) kit.memory.grow(Math.ceil(lacking / PAGE));
     const memory = () => new Uint8Array(kit.memory.buffer, kit.base);
@@ -33,17 +35,18 @@ function hold(name, sheet, room, answer, report) {
     const buffer = patterned(room, shift + 1);
     memory().set(around);
 
-    const got = kit.call(sheet, buffer);
+    const got = question ? kit.callExplain(sheet, currency, question.classNumber, buffer) : kit.call(sheet, buffer);
 
     assert.equal(got, answer, name);
     const expected = patterned(room, shift + 1);
     expected.set(report);
     same(buffer, expected, `${name}: the buffer`);
     around.set(sheet, at.sheet - kit.base);
+    around.set(currency, at.currency - kit.base);
     around.set(expected, at.report - kit.base);
     same(memory(), around, `${name}: the memory`);
 
-    const short = kit.margin(sheet, room);
+    const short = question ? kit.explain(sheet, currency, question.classNumber, room) : kit.margin(sheet, room);
     if (answer < 65536) same(short.report, report, `${name}: the report`);
     else assert.deepEqual(short, { number: Math.floor(answer / 65536), line: answer % 65536 }, name);
 }
@@ -51,41 +54,56 @@ function hold(name, sheet, room, answer, report) {
 const none = new Uint8Array(0);
 const refused = (number, line) => 65536 * number + line;
 
-function cases() {
-    const folder = new URL('../../tests/cases/', import.meta.url);
+// What stands in NAME.ask: the class behind the last `;`
+function questionIn(text) {
+    const at = text.lastIndexOf(';');
+    return { currency: text.subarray(0, at), classNumber: BigInt(text.subarray(at + 1).toString('latin1').trimEnd()) };
+}
+
+function cases(path) {
+    const folder = new URL(`../../tests/${path}/`, import.meta.url);
     const names = readdirSync(folder).filter((name) => name.endsWith('.sheet')).map((name) => name.slice(0, -6));
-    assert.ok(names.length > 0, 'no cases');
+    assert.ok(names.length > 0, `no ${path}`);
     for (const name of names) {
         const file = (ending) => new URL(`${name}.${ending}`, folder);
         const room = existsSync(file('room')) ? Number(readFileSync(file('room'), 'utf8')) : ROOM;
         const expect = readFileSync(file('expect'));
         const refusal = /^N;(\d+);(\d+)\n$/.exec(expect.toString('latin1'));
         const answer = refusal ? refused(Number(refusal[1]), Number(refusal[2])) : expect.length;
-        hold(name, readFileSync(file('sheet')), room, answer, refusal ? none : expect);
+        const question = existsSync(file('ask')) ? questionIn(readFileSync(file('ask'))) : undefined;
+        hold(name, readFileSync(file('sheet')), room, answer, refusal ? none : expect, question);
     }
     return names.length;
 }
 
-// How often each answer came, place 0 for acceptance
+// How often each answer came, place 0 for acceptance: to sheets, and to questions about them
 function generated(path) {
     const file = readFileSync(path);
     let place = 0; // bytes
-    const number = () => Number(file.readBigUInt64LE((place += 8) - 8));
+    const whole = () => file.readBigUInt64LE((place += 8) - 8);
+    const number = () => Number(whole());
     const bytes = (length) => {
         assert.ok(place + length <= file.length, `${path} is cut short`);
         return file.subarray(place, (place += length));
     };
-    const counts = Array(13).fill(0);
+    const text = (answer) => (answer < 65536 ? bytes(answer) : none);
+    const counts = { sheets: Array(13).fill(0), questions: Array(14).fill(0) };
     const sheets = number();
     for (let at = 0; at < sheets; at++) {
-        const [length, room, answer] = [number(), number(), number()];
+        const [length, room, answer, currencyLength] = [number(), number(), number(), number()];
+        const [classNumber, explained] = [whole(), number()];
         const sheet = bytes(length);
-        hold(`generated sheet ${at}`, sheet, room, answer, answer < 65536 ? bytes(answer) : none);
-        counts[Math.floor(answer / 65536)]++;
+        hold(`generated sheet ${at}`, sheet, room, answer, text(answer));
+        const currency = bytes(currencyLength);
+        hold(`generated question ${at}`, sheet, room, explained, text(explained), { currency, classNumber });
+        counts.sheets[Math.floor(answer / 65536)]++;
+        counts.questions[Math.floor(explained / 65536)]++;
     }
     assert.equal(place, file.length, `${path} has more than its sheets`);
-    const missing = counts.flatMap((count, at) => (count === 0 ? [at] : []));
-    assert.deepEqual(missing, [], 'answers that never came');
+    for (const [what, those] of Object.entries(counts)) {
+        const missing = those.flatMap((count, at) => (count === 0 ? [at] : []));
+        assert.deepEqual(missing, [], `answers to ${what} that never came`);
+    }
     return counts;
 }
 
@@ -102,6 +120,10 @@ function borders() {
     hold('a sheet of 65,537 and a buffer of 32,767', filled(65537), ROOM - 1, refused(1, 0), none);
     hold('a sheet of a million', filled(1000000), ROOM, refused(2, 0), none);
     hold('a buffer of a million', filled(17), 1000000, 0, none);
+    const about = (currency, classNumber) => ({ currency, classNumber });
+    hold('an empty currency, no sheet and no buffer', none, 0, refused(1, 0), none, about(none, 0));
+    hold('a question without securities', filled(17), ROOM, refused(13, 0), none, about(text('EUR'), 6));
+    hold('a currency of a million', filled(17), ROOM, refused(13, 0), none, about(filled(1000000), 2n ** 64n - 1n));
 }
 
 function wrongWords() {
@@ -110,29 +132,49 @@ function wrongWords() {
         assert.throws(() => kit.margin(value), { name: 'TypeError', message: /^the sheet is a Uint8Array, not / });
         assert.throws(() => kit.call(value, new Uint8Array(ROOM)), { name: 'TypeError', message: /^the sheet is a / });
         assert.throws(() => kit.call(none, value), { name: 'TypeError', message: /^the report buffer is a Uint8Array, not / });
+        assert.throws(() => kit.explain(value, none, 6), { name: 'TypeError', message: /^the sheet is a Uint8Array, not / });
+        assert.throws(() => kit.explain(none, value, 6), { name: 'TypeError', message: /^the currency is a Uint8Array, not / });
+        assert.throws(() => kit.callExplain(none, none, 6, value), { name: 'TypeError', message: /^the report buffer is a / });
+    }
+    for (const value of [-1, 0.5, NaN, 2 ** 53, '6', null, undefined, -1n, 2n ** 64n]) {
+        assert.throws(() => kit.explain(none, none, value), { name: 'TypeError', message: /^the class is a whole number of / });
     }
     for (const room of [-1, 0.5, NaN, Infinity, '32768', 32768n, null]) {
         assert.throws(() => kit.margin(none, room), { name: 'TypeError', message: /^the room for the report is a whole number/ });
+        assert.throws(() => kit.explain(none, none, 6, room), { name: 'TypeError', message: /^the room for the report is a / });
     }
     for (const room of [2 ** 32, 2 ** 40]) assert.throws(() => kit.margin(none, room), { name: 'RangeError' });
     hold('a sheet after wrong words', none, ROOM, refused(3, 1), none);
 }
 
-// A module of kit.wasm's form whose entry only traps: (func (param i32 i64 i32 i64) (result i64) unreachable)
-async function trap() {
+// A module of kit.wasm's form whose two entries only trap: (func (param i32 i64 i32 i64) (result i64) unreachable), and the
+// same with (param i32 i64 i32 i64 i64 i32 i64)
+function trapping() {
     const section = (id, ...bytes) => [id, bytes.length, ...bytes];
     const name = (word) => [word.length, ...new TextEncoder().encode(word)];
-    const stopping = await load(Uint8Array.from([
+    const entries = [...name('brm_margin'), 0, 0, ...name('brm_explain'), 0, 1];
+    const memory = [...name('memory'), 2, 0, ...name('__heap_base'), 3, 0];
+    return Uint8Array.from([
         0, 0x61, 0x73, 0x6d, 1, 0, 0, 0,
-        ...section(1, 1, 0x60, 4, 0x7f, 0x7e, 0x7f, 0x7e, 1, 0x7e),
-        ...section(3, 1, 0),
+        ...section(1, 2, 0x60, 4, 0x7f, 0x7e, 0x7f, 0x7e, 1, 0x7e, 0x60, 7, 0x7f, 0x7e, 0x7f, 0x7e, 0x7e, 0x7f, 0x7e, 1, 0x7e),
+        ...section(3, 2, 0, 1),
         ...section(5, 1, 0, 1),
         ...section(6, 1, 0x7f, 0, 0x41, 0, 0x0b),
-        ...section(7, 3, ...name('brm_margin'), 0, 0, ...name('memory'), 2, 0, ...name('__heap_base'), 3, 0),
-        ...section(10, 1, 3, 0, 0x00, 0x0b),
-    ]));
-    assert.throws(() => stopping.margin(none), WebAssembly.RuntimeError);
-    assert.throws(() => stopping.margin(none), /^Error: the kit was stopped in an earlier call: load it again$/);
+        ...section(7, 4, ...entries, ...memory),
+        ...section(10, 2, 3, 0, 0x00, 0x0b, 3, 0, 0x00, 0x0b),
+    ]);
+}
+
+// After a trap no entry is called again
+async function trap() {
+    const calls = [(kit) => kit.margin(none), (kit) => kit.explain(none, none, 6)];
+    for (const first of calls) {
+        const stopping = await load(trapping());
+        assert.throws(() => first(stopping), WebAssembly.RuntimeError);
+        for (const next of calls) {
+            assert.throws(() => next(stopping), /^Error: the kit was stopped in an earlier call: load it again$/);
+        }
+    }
 }
 
 // What the deepest call so far took of the stack, in bytes; half of it is to stay free
@@ -143,11 +185,13 @@ function deepest() {
 }
 
 assert.equal(process.argv.length, 3, 'usage: node hosts/web/test.mjs ANSWERS');
-const written = cases();
-const [accepted, ...refusals] = generated(process.argv[2]);
+const [written, asked] = ['cases', 'questions'].map(cases);
+const { sheets, questions } = generated(process.argv[2]);
 borders();
 wrongWords();
 await trap();
-const numbers = refusals.map((count, at) => `refused ${at + 1}: ${count}`).join(', ');
-console.log(`kit.wasm: ${written} cases; generated sheets: accepted ${accepted}, ${numbers}`);
+const told = ([accepted, ...refusals]) =>
+    [`accepted ${accepted}`, ...refusals.map((count, at) => `refused ${at + 1}: ${count}`)].join(', ');
+console.log(`kit.wasm: ${written} cases and ${asked} questions; generated sheets: ${told(sheets)}`);
+console.log(`kit.wasm: generated questions: ${told(questions)}`);
 console.log(`kit.wasm: every byte as expected; the deepest call took ${deepest()} of ${kit.base} bytes of stack`);

@@ -4,7 +4,7 @@ use native.Mathlib.Omega.{arith}
 use mathlib.Core.Bool.{Bool, true, false, not, _&&_}
 use mathlib.Core.List.{List, [], _∷_, map}
 use mathlib.Core.Option.{Option, none, some, Option·getD}
-use mathlib.Core.Path.{_≡_, refl, ap, _∙_}
+use mathlib.Core.Path.{_≡_, refl, _∙_}
 use borrow.Author.Tests.{ne-eqb, le-leb, lt-leb, ltb-true, ltb-false}
 use lib.Dec.{eqb, leb, ltb}
 use lib.ListN.{take}
@@ -14,7 +14,7 @@ use Rattle.paper.specs.Rows as paper
 use Rattle.paper.specs.Rows.{Kind, government, corporate, inflation, floating, sameKind}
 use Rattle.paper.specs.Valuation.{lower, classOf}
 use Rattle.paper.specs.Refusals.{isDuration}
-use Rattle.paper.proofs.Lists.{never, bounds, every-cons}
+use Rattle.paper.proofs.Lists.{never, bounds, every-cons, take-map}
 use Rattle.tables.specs.Numbers.{kindNumber}
 use Rattle.tables.specs.Back.{kindOf, durationOf, paperClass, paperClasses, ranged}
 use Rattle.tables.specs.declared.ClassRow.{ClassRow}
@@ -75,12 +75,6 @@ class-given (classed {n} low high) = rw (ne-eqb n 0 (λ e. omega arith))
 pub class-most : {n : Class} {o : Option Class} → Classed n o → n ≤ 40
 class-most unclassed = omega arith
 class-most (classed low high) = high
-
--- The first of some
-take-map : {A B : Type 0} (f : A → B) (n : ℕ) (xs : List A) → take n (map f xs) ≡ map f (take n xs)
-take-map f zero xs = refl
-take-map f (suc n) [] = refl
-take-map f (suc n) (x ∷ xs) = ap (λ (l : List _). f x ∷ l) (take-map f n xs)
 
 module _ (kind : Kind) (duration : Option Duration) (timed : isDuration kind duration ≡ true) where
   -- The class in the columns of rows

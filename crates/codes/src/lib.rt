@@ -146,7 +146,7 @@ fn three_number(
 }
 
 // A field that is a currency, three letters, as its number, the highest number for any other.
-fn currency_in(s: &[u8], at: Place, end: Place) -> Money
+pub fn currency_in(s: &[u8], at: Place, end: Place) -> Money
     requires { ⌜ (at ≤ end) × (end ≤ length (now s)) ⌝ }
     ensures { λ r. ⌜ r ≡ currencyOr (slice at end (now (s .entry))) ⌝ }
 {

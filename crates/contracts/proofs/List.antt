@@ -36,6 +36,7 @@ use Rattle.tables.proofs.inserted.Reads as tables-inserted
 use Rattle.places.proofs.ended.Reads as places-ended
 use Rattle.places.proofs.line_at.Reads as places-line-at
 use Rattle.fields.proofs.number_at.Reads as fields-number-at
+use Rattle.fields.proofs.ranged_in.Reads as fields-ranged-in
 use Rattle.fields.proofs.rate_at.Reads as fields-rate-at
 use Rattle.fields.proofs.duration_at.Reads as fields-duration-at
 use Rattle.fields.proofs.date_at.Reads as fields-date-at
@@ -45,6 +46,7 @@ use Rattle.fields.proofs.letter_at.Reads as fields-letter-at
 use Rattle.codes.proofs.is_within.Reads as codes-is-within
 use Rattle.codes.proofs.code_at.Reads as codes-code-at
 use Rattle.codes.proofs.currency_at.Reads as codes-currency-at
+use Rattle.codes.proofs.currency_in.Reads as codes-currency-in
 use Rattle.places.proofs.is_blank.Reads as places-is-blank
 use Rattle.fields.proofs.is_read.Reads as fields-is-read
 use Rattle.fields.proofs.is_rate.Reads as fields-is-rate
@@ -53,6 +55,7 @@ use Rattle.classes.proofs.class_section.Reads as classes-class-section
 use Rattle.classes.proofs.columns_of.Reads as classes-columns-of
 use Rattle.classes.proofs.class_of.Reads as classes-class-of
 use Rattle.priorities.proofs.priority_section.Reads as priorities-priority-section
+use Rattle.priorities.proofs.known_classes.Reads as priorities-known-classes
 use Rattle.securities.proofs.security_section.Reads as securities-security-section
 use Rattle.trades.proofs.trade_section.Reads as trades-trade-section
 use Rattle.head.proofs.header_number.Reads as head-header-number
@@ -69,13 +72,21 @@ use Rattle.offsetting.proofs.share.Reads as offsetting-share
 use Rattle.offsetting.proofs.offset_row.Reads as offsetting-offset-row
 use Rattle.offsetting.proofs.offset_all.Reads as offsetting-offset-all
 use Rattle.margin.proofs.figures_of.Reads as margin-figures-of
+use Rattle.margin.proofs.opening_of.Reads as margin-opening-of
 use Rattle.lines.proofs.mark_line.Reads as lines-mark-line
 use Rattle.lines.proofs.position_line.Reads as lines-position-line
 use Rattle.lines.proofs.total_line.Reads as lines-total-line
+use Rattle.lines.proofs.security_line.Reads as lines-security-line
+use Rattle.lines.proofs.taken_line.Reads as lines-taken-line
+use Rattle.lines.proofs.setter_line.Reads as lines-setter-line
 use Rattle.lines.proofs.refusal_line.Reads as lines-refusal-line
 use Rattle.report.proofs.write.Reads as report-write
+use Rattle.reasons.proofs.asked.Reads as reasons-asked
+use Rattle.reasons.proofs.write.Reads as reasons-write
 use Rattle.kit.proofs.brm_margin.Reads as kit-brm-margin
+use Rattle.kit.proofs.brm_explain.Reads as kit-brm-explain
 use Rattle.shown.proofs.show.Reads as shown-show
+use Rattle.shown.proofs.show_why.Reads as shown-show-why
 
 pub whole-nearest-fixed : Fixes whole-nearest.Post
 whole-nearest-fixed κs a x y s u p q = one p q
@@ -167,6 +178,9 @@ places-line-at-fixed κs a x y s u p q = one p q
 pub fields-number-at-fixed : Fixes fields-number-at.Post
 fields-number-at-fixed κs a x y s u p q = one p q
 
+pub fields-ranged-in-fixed : Fixes fields-ranged-in.Post
+fields-ranged-in-fixed κs a x y s u p q = one p q
+
 pub fields-rate-at-fixed : Fixes fields-rate-at.Post
 fields-rate-at-fixed κs a x y s u p q = one p q
 
@@ -194,6 +208,9 @@ codes-code-at-fixed κs a x y s u p q = one p q
 pub codes-currency-at-fixed : Fixes codes-currency-at.Post
 codes-currency-at-fixed κs a x y s u p q = one p q
 
+pub codes-currency-in-fixed : Fixes codes-currency-in.Post
+codes-currency-in-fixed κs a x y s u p q = one p q
+
 pub places-is-blank-fixed : Fixes places-is-blank.Post
 places-is-blank-fixed κs a x y s u p q = one p q
 
@@ -217,6 +234,9 @@ classes-class-of-fixed κs a x y s u p q = one p q
 
 pub priorities-priority-section-fixed : Fixes priorities-priority-section.Post
 priorities-priority-section-fixed κs a x y s u p q = one p q
+
+pub priorities-known-classes-fixed : Fixes priorities-known-classes.Post
+priorities-known-classes-fixed κs a x y s u p q = one p q
 
 pub securities-security-section-fixed : Fixes securities-security-section.Post
 securities-security-section-fixed κs a x y s u p q = one p q
@@ -266,6 +286,9 @@ offsetting-offset-all-fixed κs a x y s u p q = one p q
 pub margin-figures-of-fixed : Fixes margin-figures-of.Post
 margin-figures-of-fixed κs a x y s u p q = one p q
 
+pub margin-opening-of-fixed : Fixes margin-opening-of.Post
+margin-opening-of-fixed κs a x y s u p q = one p q
+
 pub lines-mark-line-fixed : FixesSeen lines-mark-line.Post {B = Place × Text} (λ κs x s. (x, now (s .0)))
 lines-mark-line-fixed κs a x y s u p q = both p q
 
@@ -275,14 +298,35 @@ lines-position-line-fixed κs a x y s u p q = both p q
 pub lines-total-line-fixed : FixesSeen lines-total-line.Post {B = Place × Text} (λ κs x s. (x, now (s .0)))
 lines-total-line-fixed κs a x y s u p q = both p q
 
+pub lines-security-line-fixed : FixesSeen lines-security-line.Post {B = Place × Text} (λ κs x s. (x, now (s .0)))
+lines-security-line-fixed κs a x y s u p q = both p q
+
+pub lines-taken-line-fixed : FixesSeen lines-taken-line.Post {B = Place × Text} (λ κs x s. (x, now (s .0)))
+lines-taken-line-fixed κs a x y s u p q = both p q
+
+pub lines-setter-line-fixed : FixesSeen lines-setter-line.Post {B = Place × Text} (λ κs x s. (x, now (s .0)))
+lines-setter-line-fixed κs a x y s u p q = both p q
+
 pub lines-refusal-line-fixed : FixesSeen lines-refusal-line.Post {B = Place × Text} (λ κs x s. (x, now (s .0)))
 lines-refusal-line-fixed κs a x y s u p q = both p q
 
 pub report-write-fixed : FixesSeen report-write.Post {B = Place × Text} (λ κs x s. (x, now (s .0)))
 report-write-fixed κs a x y s u p q = both p q
 
+pub reasons-asked-fixed : Fixes reasons-asked.Post
+reasons-asked-fixed κs a x y s u p q = one p q
+
+pub reasons-write-fixed : FixesSeen reasons-write.Post {B = Place × Text} (λ κs x s. (x, now (s .0)))
+reasons-write-fixed κs a x y s u p q = both p q
+
 pub kit-brm-margin-fixed : FixesSeen kit-brm-margin.Post {B = ℕ × Text} (λ κs x s. (x, now (s .1 .0)))
 kit-brm-margin-fixed κs a x y s u p q = one p q
 
+pub kit-brm-explain-fixed : FixesSeen kit-brm-explain.Post {B = ℕ × Text} (λ κs x s. (x, now (s .1 .1 .1 .0)))
+kit-brm-explain-fixed κs a x y s u p q = one p q
+
 pub shown-show-fixed : FixesSeen shown-show.Post {B = Place × Text} (λ κs x s. (x, now (s .1 .0)))
 shown-show-fixed κs a x y s u p q = both (p .0) (q .0)
+
+pub shown-show-why-fixed : FixesSeen shown-show-why.Post {B = Place × Text} (λ κs x s. (x, now (s .1 .1 .1 .0)))
+shown-show-why-fixed κs a x y s u p q = both (p .0) (q .0)

@@ -65,7 +65,7 @@ fn number_in(s: &[u8], at: Place, end: Place) -> u64
 }
 
 // A number from a lowest to a highest. What stands for no number stays that, in range or not.
-fn ranged_in(
+pub fn ranged_in(
     s: &[u8],
     at: Place,
     end: Place,

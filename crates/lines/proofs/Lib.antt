@@ -1,3 +1,3 @@
 pub mod Written
 mod Digits
-pub mod Currencies
+pub mod Spelled

@@ -1,14 +1,18 @@
 -- Texts written one behind the other are one text written, and so are the fields of a line.
-use Prim.Native.Nat.{ℕ, _+_, _≤_}
-use native.Mathlib.Nat.{add-assoc}
+use Prim.Native.Nat.{ℕ, suc, _+_, _≤_}
+use native.Mathlib.Nat.{add-zero, add-assoc}
 use native.Mathlib.Omega.{arith}
 use mathlib.Core.List.{[], _∷_, _++_, append-assoc}
 use mathlib.Core.Path.{_≡_, refl, sym, ap, ap₂, _∙_}
-use lib.ListN.{length, take, drop, length-append, length-drop}
-use lib.Seq.{length-take-le, take-at, drop-at, drop-drop}
-use Rattle.paper.specs.Units.{Text, Fields}
+use lib.ListN.{length, getD, set, take, drop, take-append-drop, length-append, length-drop}
+use lib.Seq.{length-take-le, take-suc, set-at, take-at, drop-at, drop-drop}
+use Rattle.paper.specs.Units.{Byte, Text, Fields}
 use Rattle.paper.specs.Text.{semicolon, lineOf}
 use Rattle.lines.specs.Written.{Place, written, Wrote}
+
+-- No text leaves all as it was
+pub none-written : (at : Place) (b : Text) → Wrote [] at b at b
+none-written at b = rw add-zero (refl, sym (take-append-drop at b))
 
 -- A text that fits leaves a buffer as long as it was
 pub written-length : (t : Text) (at : Place) (b : Text) → at + length t ≤ length b → length (written t at b) ≡ length b
@@ -34,6 +38,14 @@ written-on t u at b fits =
       ← (add-assoc at (length t) (length u)),
     )
     (simp append-assoc)
+
+-- A byte set before a text that is written is one byte more written
+pub written-before : (x : Byte) (t : Text) (at : Place) (b : Text) → at + suc (length t) ≤ length b
+    → set (written t (suc at) b) at x ≡ written (x ∷ t) at b
+written-before x t at b fits =
+    let next : suc at + length t ≡ at + suc (length t) = omega arith in
+    rw (take-suc b at 0 (omega arith), append-assoc (take at b) (getD b at 0 ∷ []) (t ++ drop (suc at + length t) b), next)
+    (set-at (take at b) (getD b at 0) (t ++ drop (at + suc (length t)) b) x at (length-take-le at b (omega arith)))
 
 -- A text in two parts
 pub record Parts (whole t u : Text) : Type 0 where

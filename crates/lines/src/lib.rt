@@ -1,12 +1,15 @@
 // Lines of the report: numbers as digits, fields and whole lines, written into the lent buffer from a place on.
 // Each function gives the place behind what it wrote.
+use tables::Code;
 use tables::Money;
-ghost use Prim.Native.Nat.{_+_, _≤_, _<_, _^_};
+ghost use Prim.Native.Nat.{_+_, _≤_, _<_, _^_, max};
+ghost use mathlib.Core.Path.{_≡_};
 ghost use mathlib.Core.List.{[], _∷_, _++_};
 ghost use lib.IntN.{natAbs};
 ghost use lib.ListN.{length};
 ghost use Rattle.paper.specs.Text.{semicolon, digits, signedDigits};
-ghost use Rattle.lines.specs.Written.{Wrote, pair, four, eight, moneyText, markLine, positionLine, totalLine, refusalLine};
+ghost use Rattle.paper.specs.Explanation.{setterOf, setterLetter, setterLine};
+ghost use Rattle.lines.specs.Written.{Wrote, pair, four, eight, moneyText, codeText, markLine, positionLine, totalLine, securityLine, takenLine, refusalLine};
 
 pub type Place = usize; // in the report, bytes
 
@@ -201,6 +204,21 @@ fn put_currency(report: &mut [u8], at: Place, money: Money) -> Place
     put_two(report, third, (48 + money % 43) as u8, 59)
 }
 
+// The twelve bytes of a code, and `;`: those in base 43 from the last to the first, then the digit behind them.
+fn put_code(report: &mut [u8], at: Place, code: Code) -> Place
+    requires { ⌜ at + 13 ≤ length (now report) ⌝ }
+    ensures { λ r. ⌜ Wrote (codeText code ++ (semicolon ∷ [])) at (now (report .entry)) r (now (report .exit)) ⌝ }
+{
+    let mut n = code / 10; // the bytes not written yet, in base 43
+    let mut i: usize = 11; // bytes not written yet
+    while 0 < i {
+        i -= 1;
+        report[at + i] = (48 + n % 43) as u8;
+        n = n / 43;
+    }
+    put_two(report, at + 11, (48 + code % 10) as u8, 59)
+}
+
 // The mark-to-market of the trade on a line of the sheet.
 pub fn mark_line(
     report: &mut [u8],
@@ -259,6 +277,67 @@ pub fn total_line(
     let third = put_signed_field(report, second, mark, 59);
     let fourth = put_field(report, third, initial, 59);
     put_field(report, fourth, total, 10)
+}
+
+// The net of a security.
+pub fn security_line(
+    report: &mut [u8],
+    at: Place,
+    code: Code,
+    net: i64, // whole units
+) -> Place
+    requires { ⌜ natAbs net < 2 ^ 63 ⌝ }
+    requires { ⌜ at + length (securityLine (codeText code) net) ≤ length (now report) ⌝ }
+    ensures { λ r. ⌜ Wrote (securityLine (codeText code) net) at (now (report .entry)) r (now (report .exit)) ⌝ }
+{
+    let first = put_two(report, at, 80, 59);
+    let second = put_code(report, first, code);
+    put_signed_field(report, second, net, 10)
+}
+
+// What the row of the priority list on a line of the sheet took from a class.
+pub fn taken_line(
+    report: &mut [u8],
+    at: Place,
+    line: u64, // of the sheet, from 1
+    long: u64, // off it, whole units
+    short: u64, // off it, whole units
+) -> Place
+    requires { ⌜ at + length (takenLine line long short) ≤ length (now report) ⌝ }
+    ensures { λ r. ⌜ Wrote (takenLine line long short) at (now (report .entry)) r (now (report .exit)) ⌝ }
+{
+    let first = put_two(report, at, 82, 59);
+    let second = put_field(report, first, line, 59);
+    let third = put_field(report, second, long, 59);
+    put_field(report, third, short, 10)
+}
+
+// The letter of the larger side: L the long, S the short, E where they are equal.
+fn setter_letter(
+    long: u64, // whole units
+    short: u64, // whole units
+) -> u8
+    ensures { λ r. ⌜ (r ∷ []) ≡ setterLetter (setterOf long short) ⌝ }
+{
+    if long == short {
+        return 69;
+    }
+    if short < long { 76 } else { 83 }
+}
+
+// The remaining side that set the margin, and its amount.
+pub fn setter_line(
+    report: &mut [u8],
+    at: Place,
+    long: u64, // whole units
+    short: u64, // whole units
+) -> Place
+    requires { ⌜ at + length (setterLine (setterOf long short) (max long short)) ≤ length (now report) ⌝ }
+    ensures { λ r. ⌜ Wrote (setterLine (setterOf long short) (max long short)) at (now (report .entry)) r (now (report .exit)) ⌝ }
+{
+    let first = put_two(report, at, 66, 59);
+    let second = put_two(report, first, setter_letter(long, short), 59);
+    put_field(report, second, whole::greatest(long, short), 10)
 }
 
 // A refusal, as the forecast prints it.

@@ -1,8 +1,8 @@
-mod Backwards
+pub mod Backwards
 pub mod Forwards
 mod Gathered
-mod Values
-mod Positions
+pub mod Values
+pub mod Positions
 pub mod Trades
 mod Parts
 pub mod Paper

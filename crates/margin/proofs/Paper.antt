@@ -19,7 +19,7 @@ use Rattle.paper.specs.Rows as paper
 use Rattle.paper.specs.Rows.{Kind, repo, cash, SecurityRow, TradeRow, Tables, sameKind}
 use Rattle.paper.specs.Currencies.{currencies}
 use Rattle.paper.specs.Valuation.{margined, accrualDay, lower, classOf, valuedIn, signedWorthsIn}
-use Rattle.paper.specs.Offsetting.{Book, nettedIn, netsIn, summed}
+use Rattle.paper.specs.Offsetting.{Book, nettedIn, netsIn, summed, openingIn}
 use Rattle.paper.specs.Report.{marginOf, markIn}
 use Rattle.paper.specs.Tables.{Admitted}
 use Rattle.paper.proofs.Lists.{never, each-map, each-made, each-found}
@@ -40,7 +40,7 @@ use Rattle.valuation.specs.declared.Valued.{Valued}
 use Rattle.offsetting.specs.Books.{rowOf}
 use Rattle.margin.specs.Sums.{securityIn, valueIn, sumsOf}
 use Rattle.margin.specs.Openings.{fromRank, Net, netAt, positionsOf, placeIn}
-use Rattle.margin.specs.Figures.{marginIn, classRows, priorityRows, noCurrency, currencyAt, figuresOf, TablesRanged}
+use Rattle.margin.specs.Figures.{marginIn, classRows, priorityRows, noCurrency, tradeSums, openingBook, currencyAt, figuresOf, TablesRanged}
 use Rattle.margin.specs.Held.{markOf, heldCurrency, heldFigures}
 use Rattle.margin.specs.declared.Sums.{Sums}
 use Rattle.margin.specs.declared.Currency.{Currency}
@@ -117,7 +117,7 @@ module _ (t : Tables) (admitted : Admitted t) where
   trades-held = table-front 500 noTrade (tradeIn t) (t .trades) (facts .few-trades)
 
   -- The currency of a security is that of a rank exactly where the rank is its own
-  rank-of : {s : SecurityRow} {i : ℕ} → Stands s (t .securities) i → (k : ℕ) (c : units.Currency) → Stands c (currencies (t .securities)) k
+  pub rank-of : {s : SecurityRow} {i : ℕ} → Stands s (t .securities) i → (k : ℕ) (c : units.Currency) → Stands c (currencies (t .securities)) k
       → same (s .currency) c ≡ eqb (rankedNet t s .rank) k
   rank-of {s} at k c own =
       currency-number-same (s .currency) c (stands-each letters at) (stands-each (each-currency (λ c. isCurrency c ≡ true) (t .securities) letters) own)
@@ -134,6 +134,11 @@ module _ (t : Tables) (admitted : Admitted t) where
       ∙ rises-same (λ s. codeNumber (s .code)) (known .stands) at rising-codes)
       (tradesLine t)
       (trades-known t admitted)
+
+  -- ... as they stand in what a currency begins with
+  pub opening-worth : (k : ℕ) (s : SecurityRow) → Stands s (t .securities) k
+      → getD (tradeSums (heldTables t) .worths) k (pos 0) ≡ signedSum (signedWorthsIn (s .code) (valuedIn t))
+  opening-worth k s at = rw trades-held (worth-held k s at)
 
   -- The mark-to-market sum of a currency, cents
   total-held : (k : ℕ) (c : units.Currency) → Stands c (currencies (t .securities)) k → getD (sumsIn t .totals) k (pos 0) ≡ markIn c (valuedIn t)
@@ -160,8 +165,12 @@ module _ (t : Tables) (admitted : Admitted t) where
       side-summed k (λ s. same (s .currency) c) (nettedIn (t .classes) (valuedIn t)) (rankedNet t) (omega (arith, stands-low at, currencies-few)) side
       (each-standing (t .securities) (λ i s own. (rank-of own k c at, refl, refl, class-most (t .classes) (facts .classes) (s .kind) (s .duration))))
 
+  -- The opening positions of a currency are the paper's
+  pub opening-held : (k : ℕ) (c : units.Currency) → Stands c (currencies (t .securities)) k → openingBook (heldTables t) k ≡ openingIn t c
+  opening-held k c at = rw (trades-held, nets-held, side-held aboveZero k c at, side-held belowZero k c at)
+
   -- The O rows are the paper's
-  priorities-paper : map rowOf (priorityRows (heldTables t .priorities)) ≡ t .priorities
+  pub priorities-paper : map rowOf (priorityRows (heldTables t .priorities)) ≡ t .priorities
   priorities-paper = ap (map rowOf) priorities-held ∙ map-map rowOf heldPriority (t .priorities) ∙ map-id (t .priorities)
 
   -- The class margins of positions, whole units
@@ -171,7 +180,7 @@ module _ (t : Tables) (admitted : Admitted t) where
   -- The figures of a currency
   currency-held : (k : ℕ) (c : units.Currency) → Stands c (currencies (t .securities)) k → currencyAt (heldTables t) k ≡ heldCurrency t c
   currency-held k c at =
-      rw (trades-held, total-held k c at, nets-held, side-held aboveZero k c at, side-held belowZero k c at, priorities-paper, margins-held)
+      rw (opening-held k c at, trades-held, total-held k c at, priorities-paper, margins-held)
 
   -- The mark-to-market of a trade, cents
   mark-held : (r : TradeRow) → Known t r → valueIn (rowsOf t) (tradeIn t r) .mark ≡ markOf t r

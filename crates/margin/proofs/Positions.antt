@@ -7,17 +7,19 @@ use mathlib.Core.Path.{refl}
 use lib.IntN.{pos, natAbs}
 use lib.ListN.{getD}
 use Rattle.paper.specs.Units.{SignedCents, Whole, SignedWhole}
-use Rattle.paper.specs.Lists.{Each}
 use Rattle.paper.specs.Rounding.{rounded}
 use Rattle.paper.specs.Signs.{aboveZero, belowZero}
 use Rattle.paper.specs.Bounds.{mostNetCents, mostNet, mostPosition, BookFacts}
 use Rattle.paper.proofs.Sizes.{rounded-at-most, above-within, below-within}
 use Rattle.tables.specs.declared.Security.{Security}
+use Rattle.tables.specs.declared.Tables.{Tables}
 use Rattle.offsetting.specs.Books.{bookOf}
 use Rattle.margin.specs.Openings.{fromRank, netAt, placeIn, positionsOf, openingsOf, bookAt}
+use Rattle.margin.specs.Figures.{tradeSums, openingBook, TablesRanged}
 use Rattle.margin.proofs.Gathered.{gathered-most}
 use Rattle.margin.proofs.Backwards.{each-or}
 use Rattle.margin.proofs.Forwards.{ranks-many, ranks-each}
+use Rattle.margin.proofs.Values.{table-worths-most}
 
 -- The net of a worth is as small as a security's: whole units
 pub net-small : (worth : SignedCents) → natAbs worth ≤ mostNetCents → natAbs (rounded worth 100) ≤ mostNet
@@ -48,3 +50,8 @@ module _ (ss : List Security) (worths : List SignedCents) (small : (i : ℕ) →
         long = λ n. each-or {P = λ p. p ≤ mostPosition} (ranks-each _ (λ k. long-most (placeIn rank k)) 41 0) n 0 (omega arith);
         short = λ n. each-or {P = λ p. p ≤ mostPosition} (ranks-each _ (λ k. short-most (placeIn rank k)) 41 0) n 0 (omega arith);
       }
+
+-- Those of tables are so
+pub opening-most : (t : Tables) → TablesRanged t → (rank : ℕ) → BookFacts (openingBook t rank)
+opening-most t ranged rank =
+    book-most (t .securities .rows) (tradeSums t .worths) (table-worths-most t ranged) (t .securities .count) 0 (ranged .few-securities) rank

@@ -16,6 +16,8 @@ use Rattle.tables.specs.declared.Tables.{Tables}
 use Rattle.offsetting.specs.Books.{bookOf, rowOf}
 use Rattle.margin.specs.Sums.{sumsOf, Placed}
 use Rattle.margin.specs.Openings.{fromRank, netAt, openingsOf, bookAt, Seated}
+use Rattle.margin.specs.declared.Sums.{Sums}
+use Rattle.margin.specs.declared.Opening.{Opening}
 use Rattle.margin.specs.declared.Margins.{Margins}
 use Rattle.margin.specs.declared.Currency.{Currency}
 use Rattle.margin.specs.declared.Figures.{Figures}
@@ -65,20 +67,32 @@ noCurrency =
       total = 0;
     }
 
--- The figures of the currency of a rank, by the sums of the trades
-abbrev pub currencyAt : Tables → ℕ → Currency
-currencyAt t rank =
+-- The sums of the trades
+abbrev pub tradeSums : Tables → Sums
+tradeSums t = sumsOf (t .securities .rows) (take (t .trades .count) (t .trades .rows))
+
+-- What the currency of a rank begins with: the worths of all securities in cents, its positions in whole units
+abbrev pub openingOf : Tables → ℕ → Opening
+openingOf t rank =
     let ss = t .securities in
-    let sums = sumsOf (ss .rows) (take (t .trades .count) (t .trades .rows)) in
-    let openings = openingsOf (fromRank (netAt (ss .rows) (sums .worths)) (ss .count) 0) in
+    let worths = tradeSums t .worths in
+    let openings = openingsOf (fromRank (netAt (ss .rows) worths) (ss .count) 0) in
     let book = bookAt (openings .long) (openings .short) rank in
-    currencyOf (t .classes) (t .priorities) (getD (sums .totals) rank (pos 0)) (bookOf (book .long) (book .short))
+    record { worths = worths; long = book .long; short = book .short }
+
+-- ... as the paper's book
+abbrev pub openingBook : Tables → ℕ → Book
+openingBook t rank = bookOf (openingOf t rank .long) (openingOf t rank .short)
+
+-- The figures of the currency of a rank
+abbrev pub currencyAt : Tables → ℕ → Currency
+currencyAt t rank = currencyOf (t .classes) (t .priorities) (getD (tradeSums t .totals) rank (pos 0)) (openingBook t rank)
 
 -- The figures of tables
 abbrev pub figuresOf : Tables → Figures
 figuresOf t =
     record {
-      marks = sumsOf (t .securities .rows) (take (t .trades .count) (t .trades .rows)) .marks;
+      marks = tradeSums t .marks;
       currencies = padded 8 noCurrency (fromRank (currencyAt t) (t .securities .currencies .count) 0);
     }
 

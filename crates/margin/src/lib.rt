@@ -21,7 +21,7 @@ ghost use Rattle.paper.specs.Bounds.{PriorityFacts, BookFacts, mostNetCents, mo
 ghost use Rattle.offsetting.specs.Books.{bookOf, rowOf};
 ghost use Rattle.margin.specs.Sums.{Placed, sumsOf};
 ghost use Rattle.margin.specs.Openings.{Seated, fromRank, netAt, openingsOf, bookAt};
-ghost use Rattle.margin.specs.Figures.{ClassRanged, TablesRanged, marginIn, marginsOf, classRows, priorityRows, currencyOf, noCurrency, figuresOf};
+ghost use Rattle.margin.specs.Figures.{ClassRanged, TablesRanged, marginIn, marginsOf, classRows, priorityRows, openingOf, currencyOf, noCurrency, figuresOf};
 
 // The sums of the trades.
 struct Sums {
@@ -46,6 +46,13 @@ struct Book {
 struct Margins {
     pub each: [Whole; 40],
     pub initial: Whole,
+}
+
+// What one currency begins with.
+pub struct Opening {
+    pub worths: [SignedCents; 200], // of each security, of this currency or another
+    pub long: [Whole; 41],
+    pub short: [Whole; 41],
 }
 
 // The figures of one currency.
@@ -168,6 +175,33 @@ fn book_of(
         k += 1;
     }
     Book {
+        long: long,
+        short: short,
+    }
+}
+
+// The opening positions of the currency of a rank, with the worths that its securities' nets are rounded from.
+pub fn opening_of(
+    tables: Tables,
+    rank: usize, // currency
+) -> Opening
+    requires { ⌜ TablesRanged tables × (rank < 8) ⌝ }
+    ensures { λ r. ⌜ r ≡ openingOf tables rank ⌝ }
+{
+    let securities = tables.securities;
+    let trades = tables.trades;
+    let rows = securities.rows;
+    let booked = trades.rows;
+    let sums = sums_of(booked, trades.count, rows);
+    let worths = sums.worths; // cents
+    let openings = openings_of(rows, securities.count, &worths);
+    let longs = openings.long; // whole units
+    let shorts = openings.short; // whole units
+    let book = book_of(&longs, &shorts, rank);
+    let long = book.long; // whole units
+    let short = book.short; // whole units
+    Opening {
+        worths: worths,
         long: long,
         short: short,
     }

@@ -14,7 +14,7 @@ use Rattle.paper.specs.Rows.{ClassRow, SecurityRow}
 use Rattle.paper.specs.Currencies.{placed, currencies, hasCurrency}
 use Rattle.paper.specs.Refusals.{rulesOf, securityKind}
 use Rattle.paper.specs.Tables.{hold, holdDown}
-use Rattle.paper.proofs.Lists.{tests, never, each-first, each-rest}
+use Rattle.paper.proofs.Lists.{tests, never, each-first, each-rest, Among, among-on}
 use Rattle.paper.proofs.Order.{same-true, same-refl, before-trans, before-not-after, before-not-same, after-not-same, Compared, first, equal, second, compared}
 
 -- ---- how a currency is placed: it is there, comes first, or goes further on
@@ -104,6 +104,20 @@ has-currency (s ∷ ss) c e = go (same (s .currency) c) refl (has-currency ss c)
     go false k rest =
         placed-commutes c (s .currency) (currencies ss)
         ∙ ap (placed (s .currency)) (rest (rw (k, firstThat) at e))
+
+-- A currency that is placed is among them
+placed-among : (c : Currency) (ds : List Currency) → Among c (placed c ds)
+placed-among c [] = ([], [], refl)
+placed-among c (d ∷ ds) = go (compared c d) (placed-among c ds)
+  where
+    go : Compared c d → Among c (placed c ds) → Among c (placed c (d ∷ ds))
+    go (first e) rest = ([], d ∷ ds, placed-first c d ds e)
+    go (equal e) rest = ([], ds, placed-there c d ds e ∙ ap (λ (b : Currency). b ∷ ds) (sym e))
+    go (second e) rest = subst (Among c) (sym (placed-on c d ds e)) (among-on d rest)
+
+-- So is one that a row has
+pub currency-among : (ss : List SecurityRow) (c : Currency) → hasCurrency ss c ≡ true → Among c (currencies ss)
+currency-among ss c e = subst (Among c) (has-currency ss c e) (placed-among c (currencies ss))
 
 -- A currency placed makes one more at most
 placed-length : (c : Currency) (ds : List Currency) → length (placed c ds) ≤ suc (length ds)

@@ -7,7 +7,7 @@ use mathlib.Core.Path.{_≡_, refl, sym, ap, ap₂, _∙_, subst, fun-ext}
 use lib.Dec.{T, leb, ltb, leb→le, le→leb, lt→ltb}
 use lib.ListN.{length, take, drop}
 use lib.Seq.{take-append-seam}
-use Rattle.paper.specs.Units.{Text, Room, Currency}
+use Rattle.paper.specs.Units.{Text, Room, Number, Currency}
 use Rattle.paper.specs.Rows.{ClassRow, PriorityRow, Tables}
 use Rattle.paper.specs.Lists.{sum, every, joinedUp}
 use Rattle.paper.specs.Text.{same}
@@ -18,7 +18,7 @@ use Rattle.paper.specs.Offsetting.{netsIn, Book, opening}
 use Rattle.paper.specs.Refusals.{Outcome, refused, accepted, judged, _>>=_, isClass, isFactor, hasClass, rulesOf, priorityKind}
 use Rattle.paper.specs.Sheet.{readSheet}
 use Rattle.paper.specs.Report.{tradeLine, marginOf, classLine, currencyLine, markIn, currencyLines, reportOf}
-use Rattle.paper.specs.Answer.{Answer, roomRules, answer, numberOf, bufferAfter, kit}
+use Rattle.paper.specs.Answer.{Answer, roomRules, tablesOf, answer, numberOf, bufferAfter, handedBack, Kit, kit}
 use Rattle.paper.specs.Tables.{sheetOf, hold, holdDown, Admitted}
 use Rattle.paper.specs.Demands.{IsAnswer, Gives, Reports, Demand1, Demand2, Demand3, Reordering, RowTakes, names, withPriorities}
 use Rattle.paper.proofs.Lists.{tests, passes, holds, together, both, every-cons, each-every}
@@ -36,20 +36,17 @@ use Rattle.paper.proofs.Offsetting.{taken-there, row-conserves, row-low
 pub gives-answer : (sheet buffer : Text) (a : Answer) → answer (length buffer) sheet ≡ a
     → kit sheet buffer ≡ (numberOf a, bufferAfter a buffer)
 unfolding kit
-gives-answer sheet buffer a e = ap (λ (a : Answer). (numberOf a, bufferAfter a buffer)) e
+gives-answer sheet buffer a e = ap (λ (a : Answer). handedBack a buffer) e
 
--- That is a refusal which leaves the buffer as it was, or the report at its start
-gives : (sheet buffer : Text) (a : Answer) → answer (length buffer) sheet ≡ a → Gives kit sheet buffer a
-gives sheet buffer (refused number line) e = gives-answer sheet buffer (refused number line) e
-gives sheet buffer (accepted report) e = gives-answer sheet buffer (accepted report) e
+-- A kit that hands an answer back gives it: a refusal which leaves the buffer as it was, or the report at its start
+pub gives : (kit : Kit) (sheet buffer : Text) (a : Answer) → kit sheet buffer ≡ handedBack a buffer → Gives kit sheet buffer a
+gives kit sheet buffer (refused number line) e = e
+gives kit sheet buffer (accepted report) e = e
 
 -- ---- what an answer may be
 
--- The tables of a sheet, where the buffer and the sheet have room
-abbrev tablesOf : Room → Text → Outcome Tables
-tablesOf room sheet = judged 0 sheet (roomRules room sheet) >>= readSheet
-
-tables-sound : (room : Room) (sheet : Text) → Sound 65_536 (tablesOf room sheet)
+-- What is read is sound, where the buffer and the sheet have room
+pub tables-sound : (room : Room) (sheet : Text) → Sound 65_536 (tablesOf room sheet)
 tables-sound room sheet =
     bind-sound 65_536 (judged 0 sheet (roomRules room sheet)) readSheet
     (judged-sound 65_536 0 sheet (roomRules room sheet) refl (omega arith))
@@ -58,43 +55,59 @@ tables-sound room sheet =
     read-sound s (subst (λ (s : Text). length s ≤ 65_536) same (leb→le (length sheet) 65_536 (search tests))))
 
 -- Tables that were read are admitted, and the sheet is their writing
-tables-admitted : (room : Room) (sheet : Text) (t : Tables) → tablesOf room sheet ≡ accepted t → Admitted t × (sheet ≡ sheetOf t)
+pub tables-admitted : (room : Room) (sheet : Text) (t : Tables) → tablesOf room sheet ≡ accepted t → Admitted t × (sheet ≡ sheetOf t)
 tables-admitted room sheet t e =
     both-accepted (judged 0 sheet (roomRules room sheet)) readSheet t e λ s e1 k1.
     let same = judged-accepted 0 sheet s (roomRules room sheet) e1 .0 in
     subst (λ (s : Text). Admitted t × (s ≡ sheetOf t)) (sym same) (read-written s t k1)
 
-pub is-answer : (room : Room) (sheet : Text) → IsAnswer (answer room sheet)
-is-answer room sheet = go (tablesOf room sheet) (tables-sound room sheet) (tables-admitted room sheet)
+-- ... and the buffer has room
+pub tables-room : (room : Room) (sheet : Text) (t : Tables) → tablesOf room sheet ≡ accepted t → 32_768 ≤ room
+tables-room room sheet t e =
+    both-accepted (judged 0 sheet (roomRules room sheet)) readSheet t e λ s e1 k1.
+    let (same, holding) = judged-accepted 0 sheet s (roomRules room sheet) e1 in
+    leb→le 32_768 room (search tests)
+
+-- What goes on from the tables that were read is an answer where it is one for admitted tables
+pub goes-on : (highest : Number) → 12 ≤ highest → (room : Room) (sheet : Text) (next : Tables → Answer)
+    → ((t : Tables) → Admitted t → IsAnswer highest (next t)) → IsAnswer highest (tablesOf room sheet >>= next)
+goes-on highest most room sheet next fits = go (tablesOf room sheet) (tables-sound room sheet) (tables-admitted room sheet)
   where
     go : (o : Outcome Tables) → Sound 65_536 o → ((t : Tables) → o ≡ accepted t → Admitted t × (sheet ≡ sheetOf t))
-        → IsAnswer (o >>= λ t. accepted (reportOf t))
-    go (refused number line) s admitted = s
-    go (accepted t) s admitted = report-fits t (admitted t refl .0)
+        → IsAnswer highest (o >>= next)
+    go (refused number line) (low, high, below) admitted = (low, omega arith, below)
+    go (accepted t) s admitted = fits t (admitted t refl .0)
+
+-- So is what the kit answers, whatever the sheet
+pub is-answer : (room : Room) (sheet : Text) → IsAnswer 12 (answer room sheet)
+is-answer room sheet = goes-on 12 (omega arith) room sheet (λ t. accepted (reportOf t)) report-fits
 
 -- Demand 1. The kit answers every sheet of bytes and ends. A bad sheet is refused by number and line, and a refusal
 -- leaves every byte of the lent report as it was. Callers check nothing first.
 pub demand-1 : Demand1 kit
 demand-1 = (
-  λ sheet buffer s b. (answer (length buffer) sheet, is-answer (length buffer) sheet, gives sheet buffer _ refl),
-  λ sheet buffer s b number line e. gives sheet buffer (refused number line) e,
+  λ sheet buffer s b.
+      let a = answer (length buffer) sheet in
+      (a, is-answer (length buffer) sheet, gives kit sheet buffer a (gives-answer sheet buffer a refl)),
+  λ sheet buffer s b number line e. gives-answer sheet buffer (refused number line) e,
   smallest-number,
   earliest-line,
 )
 
 -- ---- accepted exactly when admitted
 
--- The answer to admitted tables, written as a sheet, is their report
-answer-admitted : (room : Room) (t : Tables) → 32_768 ≤ room → Admitted t → answer room (sheetOf t) ≡ accepted (reportOf t)
-answer-admitted room t h a =
+-- Admitted tables, written as a sheet, are what is read of it
+pub tables-read : (room : Room) (t : Tables) → 32_768 ≤ room → Admitted t → tablesOf room (sheetOf t) ≡ accepted t
+tables-read room t h a =
     let holding : T (hold (roomRules room (sheetOf t))) =
     together (leb 32_768 room) (leb (length (sheetOf t)) 65_536 && true) (le→leb 32_768 room h)
     (together (leb (length (sheetOf t)) 65_536) true (le→leb (length (sheetOf t)) 65_536 (sheet-fits t a)) tt)
     in
-    let read : tablesOf room (sheetOf t) ≡ accepted t =
     ap (λ (o : Outcome Text). o >>= readSheet) (judged-holds 0 (sheetOf t) (roomRules room (sheetOf t)) holding) ∙ written-read t a
-    in
-    ap (λ (o : Outcome Tables). o >>= λ t. accepted (reportOf t)) read
+
+-- The answer to it is their report
+answer-admitted : (room : Room) (t : Tables) → 32_768 ≤ room → Admitted t → answer room (sheetOf t) ≡ accepted (reportOf t)
+answer-admitted room t h a = ap (λ (o : Outcome Tables). o >>= λ t. accepted (reportOf t)) (tables-read room t h a)
 
 -- A kit gives one report
 one-report : (r report buffer : Text) → numberOf (accepted r) ≡ numberOf (accepted report)
@@ -110,11 +123,11 @@ pub demand-2 : Demand2 kit
 demand-2 sheet buffer s b room report fits = (
   λ given. go (answer (length buffer) sheet) refl (is-answer (length buffer) sheet) given,
   λ (t, admitted, written, figures).
-      gives sheet buffer (accepted report)
+      gives-answer sheet buffer (accepted report)
       (ap (answer (length buffer)) written ∙ answer-admitted (length buffer) t room admitted ∙ ap accepted (sym figures)),
 )
   where
-    go : (a : Answer) → answer (length buffer) sheet ≡ a → IsAnswer a → Reports kit sheet buffer report
+    go : (a : Answer) → answer (length buffer) sheet ≡ a → IsAnswer 12 a → Reports kit sheet buffer report
         → (t : Tables) × Admitted t × (sheet ≡ sheetOf t) × (report ≡ reportOf t)
     go (refused number line) e (low, high, below) given =
         let same : numberOf (refused number line) ≡ length report =
@@ -201,7 +214,7 @@ demand-3 = (reordering, row-takes, rows-keep)
           written,
           λ os same.
               let r = rows-reordered (t .priorities) os same in
-              gives (sheetOf (withPriorities t os)) buffer (accepted report)
+              gives-answer (sheetOf (withPriorities t os)) buffer (accepted report)
               (answer-admitted (length buffer) (withPriorities t os) room (reordered-admitted t os r admitted)
               ∙ ap accepted (reordered-report t os r ∙ sym figures)),
         )

@@ -1,30 +1,34 @@
--- How long a line, a report and a sheet can be: of admitted tables the report fits 32,768 bytes, and the sheet 65,536.
-use Prim.Native.Nat.{ℕ, _+_, _*_, _≤_, _<_}
-use native.Mathlib.Nat.{le-of-eq, le-trans, not-suc-le-zero, mul-le-mul-right}
+-- How long a line, a report, an explanation and a sheet can be: of admitted tables the report and any explanation fit 32,768
+-- bytes, and the sheet 65,536.
+use Prim.Native.Nat.{ℕ, _+_, _*_, max, _≤_, _<_}
+use native.Mathlib.Nat.{le-of-eq, le-trans, not-suc-le-zero, mul-le-mul-right, max-le}
 use native.Mathlib.Omega.{arith}
 use mathlib.Core.Bool.{true}
 use mathlib.Core.List.{List, [], _∷_, _++_, map}
 use mathlib.Core.Option.{Option, none, some}
 use mathlib.Core.Path.{_≡_, refl, _∙_}
 use lib.IntN.{natAbs}
-use lib.ListN.{length, length-append, length-map}
-use Rattle.paper.specs.Units.{Byte, Text, Fields, Date, Currency, SignedCents, Whole}
-use Rattle.paper.specs.Lists.{sum, joinedUp, Each}
-use Rattle.paper.specs.Text.{semicolon, LF, parted, lineOf, digits, signedDigits, isCurrency, ascii, blankOr}
+use lib.ListN.{length, take, length-append, length-map}
+use Rattle.paper.specs.Units.{Byte, Text, Fields, Date, Class, Currency, SignedCents, Whole}
+use Rattle.paper.specs.Lists.{sum, only, joinedUp, Each}
+use Rattle.paper.specs.Text.{semicolon, LF, parted, lineOf, same, digits, signedDigits, isCode, isCurrency, ascii, blankOr}
 use Rattle.paper.specs.Rows.{Kind, government, corporate, inflation, floating, Trade, repo, cash, Side, seller, purchaser, ClassRow, PriorityRow, SecurityRow, TradeRow, Tables, kindLetter, tradeLetter, sideLetter, writeDate, writeClass, writePriority, writeSecurity, writeTrade}
 use Rattle.paper.specs.Currencies.{currencies}
 use Rattle.paper.specs.Valuation.{Valued, valuedIn}
-use Rattle.paper.specs.Offsetting.{Book, position, total}
+use Rattle.paper.specs.Offsetting.{Book, position, Netted, nettedIn, netsIn, total, openingIn, remainingIn}
 use Rattle.paper.specs.Report.{marginOf, markIn, tradeLine, classLine, currencyLine, currencyLines, reportOf}
+use Rattle.paper.specs.Explanation.{Took, Setter, byLong, byShort, byBoth, listed, tookAny, setterOf, explanationOf, netLine, tookLine, setterLetter, setterLine, explanationText}
 use Rattle.paper.specs.Tables.{sheetOf, Admitted}
-use Rattle.paper.specs.Bounds.{PriorityFacts, mostMarkSum, mostInitial, BookFacts}
-use Rattle.paper.proofs.Lists.{each-map, each-made, joined-most, joined-append}
+use Rattle.paper.specs.Reasons.{TookSo}
+use Rattle.paper.specs.Bounds.{PriorityFacts, mostMarkSum, mostInitial, mostPosition, BookFacts}
+use Rattle.paper.proofs.Lists.{each-map, each-only, each-made, length-only, joined-most, joined-append}
 use Rattle.paper.proofs.Digits.{digits-length, signed-length, date-eight}
 use Rattle.paper.proofs.Fields.{code-length, currency-length}
 use Rattle.paper.proofs.Currencies.{few-currencies, each-currency}
 use Rattle.paper.proofs.Rules.{DateFacts, ClassFacts, SecurityFacts, TradeFacts}
 use Rattle.paper.proofs.Bounds.{ValuedFacts}
-use Rattle.paper.proofs.Totals.{margined-facts, table-facts, margin-most, total-most, remainingIn, currency-facts}
+use Rattle.paper.proofs.Totals.{margined-facts, table-facts, net-most, SmallNet, nets-few, opening-in-most, remaining-most, margin-most, total-most, currency-facts}
+use Rattle.paper.proofs.Explanation.{allTook, all-took, rows-own}
 
 -- Fields parted by a mark, with one more mark behind them, have the fields' bytes and one more for each
 parted-length : (mark : Byte) (f : Text) (fs : Fields)
@@ -117,6 +121,82 @@ report-fits t a =
       v .few,
       joined-most lines 2_216 cs (each-map (λ c e. currency-lines-most t a c e) each),
       few-currencies (t .classes) (t .securities) (a .3),
+    )
+
+-- ---- the explanation
+
+-- A P line has at most 29 bytes
+net-line-most : (s : Netted) → isCode (s .code) ≡ true → SmallNet s → length (netLine s) ≤ 29
+net-line-most s code small =
+    omega (
+      arith,
+      line-length (ascii "P" ∷ s .code ∷ signedDigits (s .net) ∷ []) (omega arith),
+      code-length (s .code) code,
+      signed-length (s .net) 11 (omega arith),
+    )
+
+-- An R line has at most 36 bytes
+took-line-most : (t : Tables) → Admitted t → (c : Currency) (n : Class) (r : Took) → TookSo t c n r → length (tookLine r) ≤ 36
+took-line-most t a c n r own =
+    let f = table-facts t a in
+    let met = remaining-most (take (own .place) (t .priorities)) (openingIn t c) (opening-in-most t a c) in
+    omega (
+      arith,
+      line-length (ascii "R" ∷ digits (r .line) ∷ digits (r .long) ∷ digits (r .short) ∷ []) (omega arith),
+      digits-length (r .line) 2 (omega (arith, own .line, own .there, f .few-classes, f .few-priorities)),
+      digits-length (r .long) 13 (omega (arith, own .takes .long, met .long n)),
+      digits-length (r .short) 13 (omega (arith, own .takes .short, met .short n)),
+    )
+
+-- The side that set the margin is written as one letter
+setter-letter : (side : Setter) → length (setterLetter side) ≡ 1
+setter-letter byLong = refl
+setter-letter byShort = refl
+setter-letter byBoth = refl
+
+-- The B line has at most 19 bytes
+setter-line-most : (side : Setter) (amount : Whole) → amount ≤ mostPosition → length (setterLine side amount) ≤ 19
+setter-line-most side amount most =
+    omega (
+      arith,
+      line-length (ascii "B" ∷ setterLetter side ∷ digits amount ∷ []) (omega arith),
+      setter-letter side,
+      digits-length amount 13 (omega arith),
+    )
+
+-- The explanation of any class of admitted tables fits its room of 32,768 bytes
+pub explanation-fits : (t : Tables) → Admitted t → (c : Currency) (n : Class)
+    → length (explanationText (explanationOf t c n)) ≤ 32_768
+unfolding explanationOf explanationText
+explanation-fits t a c n =
+    let f = table-facts t a in
+    let v = margined-facts t a in
+    let own = only (λ s. same (s .currency) c) (t .securities) in
+    let net = nettedIn (t .classes) (valuedIn t) in
+    let nets = only (listed n) (netsIn t (valuedIn t) c) in
+    let rows = only tookAny (allTook t c n) in
+    let book = currency-facts t a c .book in
+    let long = position (remainingIn t c .long) n in
+    let short = position (remainingIn t c .short) n in
+    let last = setterLine (setterOf long short) (max long short) in
+    let small : Each (λ s. length (netLine s) ≤ 29) nets =
+    each-only (listed n) (netsIn t (valuedIn t) c)
+    (each-made net own
+    (each-only (λ s. same (s .currency) c) (t .securities)
+    (each-map (λ s g. net-line-most (net s) (g .code) (net-most (s .code) (valuedIn t) v)) (f .securities))))
+    in
+    omega (
+      arith,
+      length-append (joinedUp (map netLine nets)) (joinedUp (map tookLine rows) ++ last),
+      length-append (joinedUp (map tookLine rows)) last,
+      joined-most netLine 29 nets small,
+      length-only (listed n) (netsIn t (valuedIn t) c),
+      nets-few t a c,
+      joined-most tookLine 36 rows (each-map (took-line-most t a c n) (rows-own t c n)),
+      length-only tookAny (allTook t c n),
+      all-took t c n,
+      f .few-priorities,
+      setter-line-most (setterOf long short) (max long short) (max-le (book .long n) (book .short n)),
     )
 
 -- ---- the sheet

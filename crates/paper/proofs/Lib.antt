@@ -23,5 +23,8 @@ pub mod Reordering
 pub mod Offsetting
 pub mod Bounds
 pub mod Totals
+pub mod Listed
+pub mod Explanation
 pub mod Lengths
 pub mod Demands
+pub mod Reasons

@@ -1,16 +1,18 @@
--- Laws of text as lines and fields: it is cut at its marks and put together again, and nothing is lost on either way.
+-- Laws of text as lines and fields: it is cut at its marks and put together again, and nothing is lost on either
+-- way; and which lines a text has that is put together of lines.
 use Prim.Native.Nat.{_≤_}
 use native.Mathlib.Omega.{arith}
 use mathlib.Core.Bool.{Bool, true, false, not, _&&_}
 use mathlib.Core.List.{List, [], _∷_, _++_, map, append-nil, append-assoc}
-use mathlib.Core.Path.{_≡_, refl, ap, _∙_}
+use mathlib.Core.Path.{_≡_, refl, sym, ap, _∙_, subst}
 use borrow.Author.Tests.{eqb-true, eq-eqb, not-true}
 use lib.Dec.{eqb}
 use lib.ListN.{length, length-append}
 use Rattle.paper.specs.Units.{Byte, Text, Fields}
 use Rattle.paper.specs.Lists.{joinedUp, every}
 use Rattle.paper.specs.Text.{LF, semicolon, pieced, pieces, linesOf, lines, parted, lineOf}
-use Rattle.paper.proofs.Lists.{never, both, every-step, every-cons, every-append, every-weaker}
+use Rattle.paper.specs.Reasons.{HasLine}
+use Rattle.paper.proofs.Lists.{never, both, every-step, every-cons, every-append, every-weaker, Among, joined-parts, joined-among}
 
 -- Neither `;` nor LF
 abbrev pub plain : Byte → Bool
@@ -170,3 +172,52 @@ lines-joined b t e = rw e (go (pieces LF t) (pieces-filled LF t))
     go ([] ∷ []) h = refl
     go ((c ∷ p) ∷ []) h = refl
     go (p ∷ q ∷ ps) h = first (pieces semicolon p) (linesOf (q ∷ ps)) (pieces-filled semicolon p)
+
+-- ---- a text of lines
+
+-- A text is lines, each by its fields
+abbrev pub IsLines : Text → Type 0
+IsLines text = (all : List Fields) × (text ≡ joinedUp (map lineOf all))
+
+-- One line is
+pub line-is : (fs : Fields) → IsLines (lineOf fs)
+line-is fs = (fs ∷ [], sym (append-nil (lineOf fs)))
+
+-- Two such texts, one behind the other, are
+pub both-are : {a b : Text} → IsLines a → IsLines b → IsLines (a ++ b)
+both-are (above, e) (below, k) = (above ++ below, rw (e, k) (sym (joined-parts lineOf above below)))
+
+-- So are pieces
+pub all-are : {R : Type 0} (piece : R → Text) → ((r : R) → IsLines (piece r)) → (rs : List R) → IsLines (joinedUp (map piece rs))
+all-are piece each [] = ([], refl)
+all-are piece each (r ∷ rs) = both-are (each r) (all-are piece each rs)
+
+-- A line of one of them is a line of both
+pub line-above : {a b : Text} (fs : Fields) → HasLine fs a → IsLines b → HasLine fs (a ++ b)
+line-above fs (above, (below, e)) (rest, k) = (
+  above,
+  (
+    below ++ rest,
+    rw (e, k)
+        (sym (joined-parts lineOf (above ++ (fs ∷ below)) rest)
+        ∙ ap (λ (l : List Fields). joinedUp (map lineOf l)) (append-assoc above (fs ∷ below) rest)),
+  ),
+)
+
+pub line-below : {a b : Text} (fs : Fields) → IsLines a → HasLine fs b → HasLine fs (a ++ b)
+line-below fs (rest, k) (above, (below, e)) = (
+  rest ++ above,
+  (
+    below,
+    rw (e, k)
+        (sym (joined-parts lineOf rest (above ++ (fs ∷ below)))
+        ∙ ap (λ (l : List Fields). joinedUp (map lineOf l)) (sym (append-assoc rest above (fs ∷ below)))),
+  ),
+)
+
+-- ... and one of a piece is a line of all pieces
+pub line-among : {R : Type 0} (piece : R → Text) → ((r : R) → IsLines (piece r)) → {r : R} {rs : List R} → Among r rs
+    → (fs : Fields) → HasLine fs (piece r) → HasLine fs (joinedUp (map piece rs))
+line-among piece each among fs h =
+    subst (HasLine fs) (sym (joined-among piece among))
+    (line-below fs (all-are piece each (among .0)) (line-above fs h (all-are piece each (among .1))))

@@ -3,14 +3,14 @@ use Prim.Native.Nat.{ℕ, zero, suc, _+_, _*_, _≤_, _<_}
 use native.Mathlib.Nat.{suc-mul, le-of-suc-le-suc, not-suc-le-zero}
 use native.Mathlib.Omega.{arith}
 use mathlib.Core.Bool.{Bool, true, false, not, _&&_, _||_}
-use mathlib.Core.List.{List, [], _∷_, _++_, map, append-assoc}
+use mathlib.Core.List.{List, [], _∷_, _++_, map, reverseAux, append-assoc}
 use mathlib.Core.Option.{Option, none, some, Option·some-injective, Option·none-ne-some}
 use mathlib.Core.Path.{_≡_, refl, sym, ap, _∙_, subst}
 use borrow.Author.Tests.{leb-true, le-leb}
 use lib.Dec.{T, leb, leb→le, ltb→lt}
 use lib.ListN.{length, getD, set, take, length-append}
 pub use Rattle.paper.specs.Lists.{Each, nil, cons}
-use Rattle.paper.specs.Lists.{between, sum, joinedUp, every, only, firstThat, given, when, _>>=_}
+use Rattle.paper.specs.Lists.{InOrder, ended, ahead, between, sum, joinedUp, every, only, firstThat, given, when, _>>=_}
 
 -- No test both passes and fails
 pub never : {X : Type 0} → false ≡ true → X
@@ -73,6 +73,11 @@ bind-some (some a) next b e = (a, refl, e)
 pub given-when : {A : Type 0} (b : Bool) (a : A) → given (when b a) ≡ true → b ≡ true
 given-when true a e = refl
 given-when false a e = never e
+
+-- What is there is something
+pub given-some : {A : Type 0} (o : Option A) → given o ≡ true → (a : A) × (o ≡ some a)
+given-some none e = never e
+given-some (some a) e = (a, refl)
 
 -- All pass where the first does and the rest do
 pub every-step : {A : Type 0} (test : A → Bool) (x : A) (xs : List A) → every test (x ∷ xs) ≡ (test x && every test xs)
@@ -183,6 +188,30 @@ pub each-all : {A : Type 0} {P : A → Type 0} → ((a : A) → P a) → (xs : L
 each-all all [] = nil
 each-all all (x ∷ xs) = cons (all x) (each-all all xs)
 
+-- What is true at each place of a list is true of each entry
+pub each-place : {A : Type 0} {P : A → Type 0} (xs : List A) (other : A) → ((i : ℕ) → i < length xs → P (getD xs i other)) → Each P xs
+each-place [] other at = nil
+each-place (x ∷ xs) other at = cons (at 0 (omega arith)) (each-place xs other (λ i h. at (suc i) (omega arith)))
+
+-- What is true of each entry beside any that a fact holds of is true of each such entry beside itself
+pub each-self : {A : Type 0} {Q : A → Type 0} {P : A → A → Type 0} (xs : List A) → ((x : A) → Q x → Each (P x) xs)
+    → Each (λ x. Q x → P x x) xs
+each-self [] beside = nil
+each-self (x ∷ xs) beside = cons (λ q. each-first (beside x q)) (each-self xs (λ y q. each-rest (beside y q)))
+
+-- An entry is among those of a list: it stands between those above it and those below
+abbrev pub Among : {A : Type 0} → A → List A → Type 0
+Among {A} x xs = (above : List A) × (below : List A) × (xs ≡ above ++ (x ∷ below))
+
+-- It is so behind one more
+pub among-on : {A : Type 0} {x : A} {xs : List A} (y : A) → Among x xs → Among x (y ∷ xs)
+among-on {A} y (above, below, e) = (y ∷ above, below, ap (λ (l : List A). y ∷ l) e)
+
+-- Each entry of a list is among them
+pub each-among : {A : Type 0} (xs : List A) → Each (λ x. Among x xs) xs
+each-among [] = nil
+each-among (x ∷ xs) = cons ([], xs, refl) (each-map (λ y s. among-on x s) (each-among xs))
+
 -- What is true of each entry is true of the first that passes a test
 pub each-found : {A : Type 0} {P : A → Type 0} (test : A → Bool) (xs : List A) → Each P xs
     → (a : A) → firstThat test xs ≡ some a → P a
@@ -193,14 +222,40 @@ each-found {A} {P} test (x ∷ xs) (cons p ps) a e = go (test x) refl (each-foun
     go true k rest = rw (Option·some-injective x a (rw (k, firstThat) at e)) at p
     go false k rest = rest (rw (k, firstThat) at e)
 
--- What is true of each entry is true of each that passes a test
-pub each-only : {A : Type 0} {P : A → Type 0} (test : A → Bool) (xs : List A) → Each P xs → Each P (only test xs)
-each-only test [] nil = nil
-each-only {A} {P} test (x ∷ xs) (cons p ps) = go (test x) refl (each-only test xs ps)
+-- Where entries fail a test, the first that passes it is the same behind them, the nearest of them first
+pub first-behind : {A : Type 0} (test : A → Bool) (above xs : List A) → Each (λ a. test a ≡ false) above
+    → firstThat test (reverseAux above xs) ≡ firstThat test xs
+first-behind test [] xs nil = refl
+first-behind test (a ∷ above) xs (cons e rest) = first-behind test above (a ∷ xs) rest ∙ rw (e, firstThat)
+
+-- What is true of each entry that passes a test is true of each that is kept by it
+pub each-kept : {A : Type 0} {P : A → Type 0} (test : A → Bool) (xs : List A) → Each (λ x. test x ≡ true → P x) xs
+    → Each P (only test xs)
+each-kept test [] nil = nil
+each-kept {A} {P} test (x ∷ xs) (cons p ps) = go (test x) refl (each-kept test xs ps)
   where
     go : (b : Bool) → test x ≡ b → Each P (only test xs) → Each P (only test (x ∷ xs))
-    go true k rest = rw (k, only) (cons p rest)
+    go true k rest = rw (k, only) (cons (p k) rest)
     go false k rest = rw (k, only) rest
+
+-- ... and the other way round
+pub kept-each : {A : Type 0} {P : A → Type 0} (test : A → Bool) (xs : List A) → Each P (only test xs)
+    → Each (λ x. test x ≡ true → P x) xs
+kept-each test [] each = nil
+kept-each {A} {P} test (x ∷ xs) each = go (test x) refl (kept-each test xs)
+  where
+    go : (b : Bool) → test x ≡ b → (Each P (only test xs) → Each (λ x. test x ≡ true → P x) xs)
+        → Each (λ x. test x ≡ true → P x) (x ∷ xs)
+    go true k rest = let kept = rw (k, only) at each in cons (λ e. each-first kept) (rest (each-rest kept))
+    go false k rest = cons (λ e. never (sym k ∙ e)) (rest (rw (k, only) at each))
+
+-- Where a test keeps nothing, no entry passes it
+pub none-kept : {A : Type 0} (test : A → Bool) (xs : List A) → only test xs ≡ [] → Each (λ x. test x ≡ true → ⊥) xs
+none-kept {A} test xs e = kept-each test xs (subst (Each (λ (x : A). ⊥)) (sym e) nil)
+
+-- What is true of each entry is true of each that passes a test
+pub each-only : {A : Type 0} {P : A → Type 0} (test : A → Bool) (xs : List A) → Each P xs → Each P (only test xs)
+each-only test xs each = each-kept test xs (each-map (λ x p e. p) each)
 
 -- No more pass a test than there are
 pub length-only : {A : Type 0} (test : A → Bool) (xs : List A) → length (only test xs) ≤ length xs
@@ -217,10 +272,27 @@ pub each-made : {A B : Type 0} {P : B → Type 0} (make : A → B) (xs : List A)
 each-made make [] nil = nil
 each-made make (x ∷ xs) (cons p ps) = cons p (each-made make xs ps)
 
+-- ... and the other way round
+pub made-each : {A B : Type 0} {P : B → Type 0} (make : A → B) (xs : List A) → Each P (map make xs)
+    → Each (λ a. P (make a)) xs
+made-each make [] each = nil
+made-each make (x ∷ xs) each = cons (each-first each) (made-each make xs (each-rest each))
+
 -- A sum of numbers that are each at most a bound is at most the bound times how many they are
 pub sum-most : (most : ℕ) (ns : List ℕ) → Each (λ n. n ≤ most) ns → sum ns ≤ length ns * most
 sum-most most [] nil = omega arith
 sum-most most (n ∷ ns) (cons small rest) = omega (arith, sum-most most ns rest, suc-mul (length ns) most)
+
+-- Entries whose number is 0 may be left out of a sum
+pub sum-kept : {A : Type 0} (number : A → ℕ) (test : A → Bool) → ((a : A) → test a ≡ false → number a ≡ 0)
+    → (xs : List A) → sum (map number (only test xs)) ≡ sum (map number xs)
+sum-kept number test zeros [] = refl
+sum-kept number test zeros (x ∷ xs) = go (test x) refl (sum-kept number test zeros xs)
+  where
+    go : (b : Bool) → test x ≡ b → sum (map number (only test xs)) ≡ sum (map number xs)
+        → sum (map number (only test (x ∷ xs))) ≡ number x + sum (map number xs)
+    go true e rest = rw (e, only) (omega arith)
+    go false e rest = rw (e, only) (omega (arith, zeros x e))
 
 -- Where what is stored is at most a bound, a place that was at most the bound still is
 pub set-most : (most : ℕ) (ns : List ℕ) (i n j : ℕ) → getD ns j 0 ≤ most → n ≤ most → getD (set ns i n) j 0 ≤ most
@@ -249,8 +321,33 @@ joined-parts piece [] ys = refl
 joined-parts piece (x ∷ xs) ys =
     ap (λ (l : List _). piece x ++ l) (joined-parts piece xs ys) ∙ sym (append-assoc (piece x) (joinedUp (map piece xs)) (joinedUp (map piece ys)))
 
+-- ... and with one entry between
+pub joined-among : {A R : Type 0} (piece : R → List A) {x : R} {xs : List R} (s : Among x xs)
+    → joinedUp (map piece xs) ≡ joinedUp (map piece (s .0)) ++ (piece x ++ joinedUp (map piece (s .1)))
+joined-among piece {x} (above, below, e) = ap (λ (l : List _). joinedUp (map piece l)) e ∙ joined-parts piece above (x ∷ below)
+
 -- And so are their lengths
 pub joined-append : {A R : Type 0} (piece : R → List A) (xs ys : List R)
     → length (joinedUp (map piece (xs ++ ys))) ≡ length (joinedUp (map piece xs)) + length (joinedUp (map piece ys))
 joined-append piece xs ys =
     ap length (joined-parts piece xs ys) ∙ length-append (joinedUp (map piece xs)) (joinedUp (map piece ys))
+
+-- The first of what is made of entries is made of the first of them
+pub take-map : {A B : Type 0} (f : A → B) (n : ℕ) (xs : List A) → take n (map f xs) ≡ map f (take n xs)
+take-map f zero xs = refl
+take-map f (suc n) [] = refl
+take-map f (suc n) (x ∷ xs) = ap (λ (l : List _). f x ∷ l) (take-map f n xs)
+
+-- Those that pass a test are in the order of all
+pub order-only : {A : Type 0} {first : A → A → Bool} (test : A → Bool) (xs : List A) → InOrder first xs → InOrder first (only test xs)
+order-only test [] order = ended
+order-only {A} {first} test (x ∷ xs) (ahead behind order) = go (test x) refl (order-only test xs order)
+  where
+    go : (b : Bool) → test x ≡ b → InOrder first (only test xs) → InOrder first (only test (x ∷ xs))
+    go true e rest = rw (e, only) (ahead (each-only test xs behind) rest)
+    go false e rest = rw (e, only) rest
+
+-- What is made of entries is in order where they are, by what is made of them
+pub order-made : {A B : Type 0} (make : A → B) {first : B → B → Bool} (xs : List A) → InOrder (λ a b. first (make a) (make b)) xs → InOrder first (map make xs)
+order-made make [] order = ended
+order-made make (x ∷ xs) (ahead behind order) = ahead (each-made make xs behind) (order-made make xs order)

@@ -17,7 +17,7 @@ use Rattle.paper.specs.Offsetting.{Book, position, taken, less, offset, 
 use Rattle.paper.specs.Demands.{names, naming}
 use Rattle.paper.proofs.Lists.{only-kept, only-left}
 use Rattle.paper.proofs.Rounding.{share-below}
-use Rattle.paper.proofs.Reordering.{Reordered, Apart, same-in-turn, same-naming}
+use Rattle.paper.proofs.Reordering.{inTurn, Reordered, Apart, same-in-turn, same-naming}
 
 -- ---- an amount off one position
 
@@ -221,7 +221,12 @@ rows-keep (o ∷ os) b n none = go (names n o) refl (rows-keep os (offsetRow o b
 pub rows-reordered : (os rs : List PriorityRow) → ((n : Class) → naming n os ≡ naming n rs) → Reordered (Apart names) os rs
 rows-reordered os rs same = same-naming names (λ o. (o .first, names-first o)) os rs same
 
+-- What all rows leave is what they leave one after the other
+in-turn : (os : List PriorityRow) (b : Book) → offsetAll os b ≡ inTurn offsetRow os b
+unfolding offsetAll
+in-turn [] b = refl
+in-turn (o ∷ os) b = in-turn os (offsetRow o b)
+
 -- They leave the same positions
 pub same-offsets : (os rs : List PriorityRow) → Reordered (Apart names) os rs → (b : Book) → offsetAll os b ≡ offsetAll rs b
-unfolding offsetAll
-same-offsets os rs r b = same-in-turn (Apart names) offsetRow rows-commute r b
+same-offsets os rs r b = in-turn os b ∙ same-in-turn (Apart names) offsetRow rows-commute r b ∙ sym (in-turn rs b)

@@ -5,8 +5,13 @@ use mathlib.Core.List.{List, [], _∷_, _++_, head-eq-of-cons-eq, tail-eq-of-con
 use mathlib.Core.Path.{_≡_, refl, sym, ap, _∙_, subst}
 use native.Mathlib.Nat.{add-suc}
 use lib.ListN.{length, length-append}
-use Rattle.paper.specs.Lists.{every, only, inTurn, Each, nil, cons}
+use Rattle.paper.specs.Lists.{every, only, Each, nil, cons}
 use Rattle.paper.proofs.Lists.{each-first, each-rest, every-cons, only-kept, only-left, only-append, only-none}
+
+-- One step after another, each from what the one before left
+abbrev pub inTurn : {A S : Type 0} → (A → S → S) → List A → S → S
+inTurn step [] s = s
+inTurn step (a ∷ rest) s = inTurn step rest (step a s)
 
 module _ {A : Type 0} (Swap : A → A → Type 0) where
   -- A list in another order: its first entry stands behind entries that it may be swapped with, and so on with the rest

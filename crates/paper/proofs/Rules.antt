@@ -2,22 +2,24 @@
 use Prim.Native.Nat.{ℕ, _+_, _-_, _≤_, _<_}
 use native.Mathlib.Omega.{arith}
 use mathlib.Core.Bool.{Bool, true, false, not, _&&_, _||_}
-use mathlib.Core.List.{List, [], _∷_}
+use mathlib.Core.List.{List, [], _∷_, reverseAux}
 use mathlib.Core.Option.{Option, none, some, Option·getD}
-use mathlib.Core.Path.{_≡_, refl}
+use mathlib.Core.Path.{_≡_, refl, _∙_}
+use borrow.Author.Tests.{eqb-true}
 use lib.Dec.{T, eqb, leb, ltb, leb→le, eqb→eq}
 use lib.IntN.{natAbs}
-use lib.ListN.{length}
-use Rattle.paper.specs.Units.{Date, Day, Code, Duration, Payments, Rate}
+use lib.ListN.{length, take}
+use Rattle.paper.specs.Units.{Date, Day, Class, Code, Duration, Payments, Rate}
 use Rattle.paper.specs.Days.{isDay, day}
-use Rattle.paper.specs.Lists.{given, Each, nil, cons}
-use Rattle.paper.specs.Text.{isCode, isCurrency}
+use Rattle.paper.specs.Lists.{every, firstThat, given, Each, nil, cons, InOrder, ended, ahead}
+use Rattle.paper.specs.Text.{same, before, isCode, isCurrency}
 use Rattle.paper.specs.Rows.{Kind, Trade, repo, cash, ClassRow, PriorityRow, SecurityRow, TradeRow}
 use Rattle.paper.specs.Valuation.{lastDay, margined, accrualDay, securityOf}
-use Rattle.paper.specs.Refusals.{RowKind, rulesOf, Period, periodOf, isDuration, isTerm, tradeDates, inPeriod, dateKind, classKind, priorityKind, securityKind, tradeKind}
+use Rattle.paper.specs.Refusals.{RowKind, hasClass, rulesOf, Period, periodOf, isDuration, isTerm, tradeDates, inPeriod, dateKind, classKind, priorityKind, securityKind, tradeKind}
 use Rattle.paper.specs.Bounds.{PriorityFacts}
 use Rattle.paper.specs.Tables.{hold, holdDown}
-use Rattle.paper.proofs.Lists.{passes, holds, right, otherwise, tests}
+use Rattle.paper.proofs.Lists.{passes, holds, right, otherwise, tests, given-some, every-cons, first-passes, each-first, each-rest, each-map, each-found, first-behind}
+use Rattle.paper.proofs.Order.{same-refl, before-trans, before-not-same}
 
 -- A border or a duration that is there is 1 to 1,000,000 ten-thousandths of a year
 duration-facts : (kind : Kind) (o : Option Duration) → T (isDuration kind o)
@@ -178,6 +180,65 @@ pub each-holds : {R : Type 0} (kind : RowKind R) (P : R → Type 0)
 each-holds kind P facts above [] h = nil
 each-holds kind P facts above (r ∷ rs) h =
     cons (facts above r (search tests)) (each-holds kind P facts (r ∷ above) rs (search tests))
+
+-- A class that has a C row is one of 1 to 40
+pub class-range : (cs : List ClassRow) (n : Class) → Each ClassFacts cs → hasClass cs n ≡ true → (1 ≤ n) × (n ≤ 40)
+class-range cs n facts has =
+    let (row, found) = given-some (firstThat (λ c. eqb (c .class) n) cs) has in
+    let f = each-found (λ c. eqb (c .class) n) cs facts row found in
+    let own : row .class ≡ n = eqb-true (row .class) n (first-passes (λ c. eqb (c .class) n) cs row found) in
+    (omega arith, omega arith)
+
+-- What comes behind the nearest of S rows that rise comes behind them all
+abbrev Rise : List SecurityRow → Type 0
+Rise above =
+    (c : Code) → every (λ a. before (a .code) c) (take 1 above) ≡ true → Each (λ a. before (a .code) c ≡ true) above
+
+-- An S row whose rules hold goes on so
+rise-on : (cs : List ClassRow) (above : List SecurityRow) (s : SecurityRow) → T (hold (rulesOf (securityKind cs) above s))
+    → Rise above → Rise (s ∷ above)
+rise-on cs above s h rise c e =
+    let last : before (s .code) c ≡ true = every-cons (λ a. before (a .code) c) s [] e .0 in
+    cons last (each-map (λ a k. before-trans (a .code) (s .code) c k last) (rise (s .code) (search tests)))
+
+-- So each S row of a table for which the rules hold comes behind those above it
+above-before : (cs : List ClassRow) (above ss : List SecurityRow) → T (holdDown (securityKind cs) above ss) → Rise above
+    → Each (λ s. Each (λ a. before (a .code) (s .code) ≡ true) above) ss
+above-before cs above [] h rise = nil
+above-before cs above (s ∷ ss) h rise =
+    cons (rise (s .code) (search tests))
+    (each-map (λ b before-it. each-rest before-it) (above-before cs (s ∷ above) ss (search tests) (rise-on cs above s (search tests) rise)))
+
+-- ... and the codes rise
+codes-order : (cs : List ClassRow) (above ss : List SecurityRow) → T (holdDown (securityKind cs) above ss) → Rise above
+    → InOrder (λ a b. before (a .code) (b .code)) ss
+codes-order cs above [] h rise = ended
+codes-order cs above (s ∷ ss) h rise =
+    let on = rise-on cs above s (search tests) rise in
+    ahead (each-map (λ b before-it. each-first before-it) (above-before cs (s ∷ above) ss (search tests) on)) (codes-order cs (s ∷ above) ss (search tests) on)
+
+pub security-order : (cs : List ClassRow) (ss : List SecurityRow) → T (holdDown (securityKind cs) [] ss) → InOrder (λ a b. before (a .code) (b .code)) ss
+security-order cs ss h = codes-order cs [] ss h (λ c e. nil)
+
+-- Behind rows that come before it, the nearest first, an S row is the one with its code
+own-code : (above ss : List SecurityRow) (s : SecurityRow) → Each (λ a. before (a .code) (s .code) ≡ true) above
+    → securityOf (reverseAux above (s ∷ ss)) (s .code) ≡ some s
+own-code above ss s behind =
+    first-behind (λ a. same (a .code) (s .code)) above (s ∷ ss) (each-map (λ a k. before-not-same (a .code) (s .code) k) behind)
+    ∙ rw (same-refl (s .code), firstThat)
+
+-- So is each of a table for which the rules hold
+codes-own : (cs : List ClassRow) (above ss : List SecurityRow) → T (holdDown (securityKind cs) above ss) → Rise above
+    → Each (λ s. securityOf (reverseAux above ss) (s .code) ≡ some s) ss
+codes-own cs above [] h rise = nil
+codes-own cs above (s ∷ ss) h rise =
+    cons (own-code above ss s (rise (s .code) (search tests)))
+    (codes-own cs (s ∷ above) ss (search tests) (rise-on cs above s (search tests) rise))
+
+-- ... and so is each of admitted tables
+pub each-code : (cs : List ClassRow) (ss : List SecurityRow) → T (holdDown (securityKind cs) [] ss)
+    → Each (λ s. securityOf ss (s .code) ≡ some s) ss
+each-code cs ss h = codes-own cs [] ss h (λ c e. nil)
 
 -- Where each row has fewer than so many above it, a table has no more than so many
 pub at-most : {R : Type 0} (kind : RowKind R) (most : ℕ)

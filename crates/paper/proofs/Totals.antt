@@ -17,7 +17,7 @@ use Rattle.paper.specs.Text.{same}
 use Rattle.paper.specs.Rows.{ClassRow, PriorityRow, SecurityRow, TradeRow, Tables}
 use Rattle.paper.specs.Valuation.{margined, accrualDay, securityOf, Valued, valued, valuedFrom, valuedIn, signedWorthsIn, netOf}
 use Rattle.paper.specs.Refusals.{rulesOf, periodOf, classKind, priorityKind, securityKind, tradeKind}
-use Rattle.paper.specs.Offsetting.{Book, position, Netted, nettedIn, netsIn, flat, summed, opening, offsetAll, margin, total}
+use Rattle.paper.specs.Offsetting.{Book, position, Netted, nettedIn, netsIn, flat, summed, opening, offsetAll, margin, total, openingIn, remainingIn}
 use Rattle.paper.specs.Report.{marginOf, markIn}
 use Rattle.paper.specs.Tables.{hold, Admitted}
 use Rattle.paper.specs.Bounds.{PriorityFacts, BookFacts, mostWorth, mostMark, mostTrades, mostLine, mostNetCents, mostNet, mostPosition, mostShareProduct, mostMargin, mostInitial, mostMarkSum, mostTotal}
@@ -153,7 +153,7 @@ pub nets-most : (cs : List ClassRow) (vs : List Valued) → MarginedFacts vs →
 nets-most cs vs f ss = each-made (nettedIn cs vs) ss (each-all (λ s. net-most (s .code) vs f) ss)
 
 -- Where there is no position, each class has 0
-flat-zero : (n : Class) (c : Class) → position (flat n) c ≡ 0
+pub flat-zero : (n : Class) (c : Class) → position (flat n) c ≡ 0
 flat-zero zero zero = refl
 flat-zero zero (suc c) = refl
 flat-zero (suc n) zero = refl
@@ -225,21 +225,22 @@ total-most initial mark i m =
 
 -- ---- one currency of admitted tables
 
--- The opening positions of a currency, as the report has them
-abbrev pub openingIn : Tables → Currency → Book
-openingIn t c = opening (netsIn t (valuedIn t) c)
-
--- ... and its remaining positions
-abbrev pub remainingIn : Tables → Currency → Book
-remainingIn t c = offsetAll (t .priorities) (openingIn t c)
+-- A currency has at most 200 nets
+pub nets-few : (t : Tables) → Admitted t → (c : Currency) → length (netsIn t (valuedIn t) c) ≤ 200
+nets-few t a c =
+    let own = only (λ s. same (s .currency) c) (t .securities) in
+    omega (
+      arith,
+      length-map own (nettedIn (t .classes) (valuedIn t)),
+      length-only (λ s. same (s .currency) c) (t .securities),
+      table-facts t a .few-securities,
+    )
 
 -- The opening positions of a currency, whole units; `remaining-most` has what is left of them after any rows
 pub opening-in-most : (t : Tables) → Admitted t → (c : Currency) → BookFacts (openingIn t c)
 opening-in-most t a c =
-    let own = only (λ s. same (s .currency) c) (t .securities) in
-    let net = nettedIn (t .classes) (valuedIn t) in
-    let few : length own ≤ 200 = le-trans (length-only (λ s. same (s .currency) c) (t .securities)) (table-facts t a .few-securities) in
-    opening-most (map net own) (rw (length-map own net) few) (nets-most (t .classes) (valuedIn t) (margined-facts t a) own)
+    opening-most (netsIn t (valuedIn t) c) (nets-few t a c)
+    (nets-most (t .classes) (valuedIn t) (margined-facts t a) (only (λ s. same (s .currency) c) (t .securities)))
 
 -- How large the figures of a currency are: its remaining positions, class margins and initial margin in whole units,
 -- its mark-to-market sum and total in cents

@@ -36,11 +36,11 @@ abbrev pub Gives : Kit → Text → Text → Answer → Type 0
 Gives kit sheet buffer (refused number line) = Refuses kit sheet buffer number line
 Gives kit sheet buffer (accepted report) = Reports kit sheet buffer report
 
--- What an answer may be: a refusal 1..12 at a line below 65,536, or a report of at most 32,768 bytes
+-- What an answer may be: a refusal from 1 to a highest number, at a line below 65,536, or a report of at most 32,768 bytes
 -- The number returned then tells which of the two it is, and the refusal from its line
-abbrev pub IsAnswer : Answer → Type 0
-IsAnswer (refused number line) = (1 ≤ number) × (number ≤ 12) × (line < 65_536)
-IsAnswer (accepted report) = length report ≤ 32_768
+abbrev pub IsAnswer : Number → Answer → Type 0
+IsAnswer highest (refused number line) = (1 ≤ number) × (number ≤ highest) × (line < 65_536)
+IsAnswer highest (accepted report) = length report ≤ 32_768
 
 -- Whether a number is that of a rule that fails
 abbrev pub breaks : Number → List Rule → Bool
@@ -104,7 +104,7 @@ EarliestLine =
 -- writes nothing, or goes by the first priority row only, passes here and fails demand 2.
 abbrev pub Demand1 : Kit → Type 0
 Demand1 kit =
-    ((sheet buffer : Text) → IsBytes sheet → IsBytes buffer → (a : Answer) × IsAnswer a × Gives kit sheet buffer a)
+    ((sheet buffer : Text) → IsBytes sheet → IsBytes buffer → (a : Answer) × IsAnswer 12 a × Gives kit sheet buffer a)
     × ((sheet buffer : Text) → IsBytes sheet → IsBytes buffer → (number : Number) → (line : Line)
     → answer (length buffer) sheet ≡ refused number line
     → Refuses kit sheet buffer number line)

@@ -1,4 +1,4 @@
--- The sheet of document 01 in full, and that its answer is the report printed there.
+-- The sheet of document 01 in full, that its answer is the report printed there, and why each class's margin is what it is.
 use mathlib.Core.Path.{_≡_, refl}
 use Rattle.paper.specs.Units.{Text}
 use Rattle.paper.specs.Rounding.{nearest, rounded}
@@ -10,7 +10,8 @@ use Rattle.paper.specs.Offsetting.{summed, offsetRow, offsetAll}
 use Rattle.paper.specs.Report.{classLine, currencyLines, reportOf}
 use Rattle.paper.specs.Lists.{joinedUp}
 use mathlib.Core.List.{[], _∷_}
-use Rattle.paper.specs.Answer.{answer, accepted}
+use Rattle.paper.specs.Explanation.{explanationOf, explanationText}
+use Rattle.paper.specs.Answer.{answer, explained, accepted}
 
 -- The sheet
 abbrev pub sheet : Text
@@ -39,7 +40,25 @@ report =
     ∷ ascii "Z;EUR;1128170;43461;3217930\n"
     ∷ [])
 
--- The claim
+-- Why the margin of class 6 is what it is: the O row of line 6 took of its long
+abbrev pub reason : Text
+reason = joinedUp (ascii "P;FR0011337880;1110160\n" ∷ ascii "R;6;300000;0\n" ∷ ascii "B;L;810160\n" ∷ [])
+
+-- ... and that of class 7: the same row took of its short
+abbrev pub shortReason : Text
+shortReason = joinedUp (ascii "P;ZZ0000000016;-600000\n" ∷ ascii "R;6;0;300000\n" ∷ ascii "B;S;300000\n" ∷ [])
+
+-- The report is that of the sheet
 pub printed : answer 32_768 sheet ≡ accepted report
 unfolding nearest rounded isOpen workingAfter lines numberIn dateIn hasCodeForm hasCheckDigit isCode digits valuedFrom rowsFrom readSheet summed offsetRow offsetAll classLine currencyLines reportOf
 printed = refl
+
+-- ... and the reason that of class 6
+pub explains : explained 32_768 sheet (ascii "EUR") 6 ≡ accepted reason
+unfolding nearest rounded isOpen workingAfter lines numberIn dateIn hasCodeForm hasCheckDigit isCode digits valuedFrom rowsFrom readSheet summed offsetRow offsetAll explanationOf explanationText
+explains = refl
+
+-- ... and of class 7
+pub explains-short : explained 32_768 sheet (ascii "EUR") 7 ≡ accepted shortReason
+unfolding nearest rounded isOpen workingAfter lines numberIn dateIn hasCodeForm hasCheckDigit isCode digits valuedFrom rowsFrom readSheet summed offsetRow offsetAll explanationOf explanationText
+explains-short = refl

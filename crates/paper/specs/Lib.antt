@@ -14,9 +14,11 @@ pub mod Sheet
 pub mod Offsetting
 pub mod Bounds
 pub mod Report
+pub mod Explanation
 pub mod Answer
 pub mod Tables
 pub mod Demands
+pub mod Reasons
 pub mod Figures
 pub mod Example
 pub mod Limits

@@ -9,7 +9,7 @@ use mathlib.Core.Path.{_≡_, refl}
 use lib.Dec.{eqb}
 use lib.IntN.{pos, negℤ}
 use lib.ListN.{getD, set, take, replicate}
-use Rattle.paper.specs.Units.{Text, Number, Line, Class, Duration, SignedCents}
+use Rattle.paper.specs.Units.{Text, Number, Line, Class, Duration, SignedCents, Whole}
 use Rattle.paper.specs.Lists.{joinedUp, given}
 use Rattle.paper.specs.Signs.{aboveZero, belowZero}
 use Rattle.paper.specs.Rounding.{lessThanHalf, tie, moreThanHalf, byHalf, nearest, rounded}
@@ -21,7 +21,8 @@ use Rattle.paper.specs.Refusals.{Outcome, refused, accepted, Rule, judge
 use Rattle.paper.specs.Sheet.{rowsFrom, readSheet}
 use Rattle.paper.specs.Offsetting.{position, summed, offsetRow, offsetAll, margin, total}
 use Rattle.paper.specs.Report.{classLine, currencyLines, reportOf}
-use Rattle.paper.specs.Answer.{answer, numberOf, bufferAfter}
+use Rattle.paper.specs.Explanation.{Took, byLong, byShort, byBoth, isNet, tookAny, setterOf}
+use Rattle.paper.specs.Answer.{answer, explained, numberOf, bufferAfter}
 use Rattle.paper.specs.Example.{sheet}
 
 -- Document 01's sheet with another text in a field of a line; field 0 is the letter
@@ -93,6 +94,10 @@ francs =
     ∷ ascii "K;CHF;6;0;0;0\nK;CHF;7;0;600000;29400\nZ;CHF;100000;29400;2840000\n"
     ∷ ascii "K;EUR;6;1110160;0;39411\nK;EUR;7;0;0;0\nZ;EUR;1028170;39411;2912930\n"
     ∷ [])
+
+-- What a row took, off the long and off the short: whole units
+abbrev took : Whole → Whole → Took
+took long short = record { line = 6; long = long; short = short }
 
 -- The table: a line, a field, texts for it and what each gives
 abbrev pub Limits : Type 0
@@ -177,7 +182,7 @@ Limits =
     × (marks 9 6 "20190612" ≡ pos 1_017_170 ∷ pos 100_000 ∷ []) × (marks 9 6 "20190613" ≡ pos 100_000 ∷ [])
     × (marks 9 7 "20190612" ≡ pos 100_000 ∷ []) × (marks 9 7 "20190613" ≡ pos 1_028_170 ∷ pos 100_000 ∷ [])
     -- Long and short of a class are sums, of the nets above zero and of those below
-    × (map (λ side. position (summed side (map (λ net. record { class = 1; net = net }) (pos 5 ∷ pos 3 ∷ negℤ (pos 2) ∷ []))) 1) (aboveZero ∷ belowZero ∷ []) ≡ 8 ∷ 2 ∷ [])
+    × (map (λ side. position (summed side (map (λ net. record { code = []; class = 1; net = net }) (pos 5 ∷ pos 3 ∷ negℤ (pos 2) ∷ []))) 1) (aboveZero ∷ belowZero ∷ []) ≡ 8 ∷ 2 ∷ [])
     -- Half of a divisor: less, the tie, more. To the nearest: an odd divisor, which has no tie; a tie above an even number and
     -- one above an odd, with what lies about each, above zero and below
     × (map (λ over. byHalf over 100) (0 ∷ 49 ∷ 50 ∷ 51 ∷ 99 ∷ []) ≡ lessThanHalf ∷ lessThanHalf ∷ tie ∷ moreThanHalf ∷ moreThanHalf ∷ [])
@@ -188,14 +193,22 @@ Limits =
     -- A row takes both pairs of two classes; the larger side; never below zero
     × (offsetRow priority (record { long = 0 ∷ 100 ∷ 50 ∷ []; short = 0 ∷ 70 ∷ 30 ∷ [] }) ≡ record { long = 0 ∷ 70 ∷ 0 ∷ []; short = 0 ∷ 20 ∷ 0 ∷ [] })
     × (margin 5_000 3 5 ≡ 3) × (margin 5_000 5 3 ≡ 3) × (map (total 5) (negℤ (pos 1) ∷ pos 499 ∷ pos 500 ∷ pos 501 ∷ []) ≡ 501 ∷ 1 ∷ 0 ∷ 0 ∷ [])
+    -- A net of 0 is not listed, nor is a row that took nothing; the larger side, or both
+    × (map isNet (pos 0 ∷ pos 1 ∷ negℤ (pos 1) ∷ []) ≡ false ∷ true ∷ true ∷ [])
+    × (map tookAny (took 0 0 ∷ took 1 0 ∷ took 0 1 ∷ []) ≡ false ∷ true ∷ true ∷ [])
+    × (setterOf 5 3 ≡ byLong) × (setterOf 3 5 ≡ byShort) × (setterOf 4 4 ≡ byBoth) × (setterOf 0 0 ≡ byBoth)
     -- Line 8 in Swiss francs: currencies apart and rising, a K line for every class, also where nothing is left
     × (answer 32_768 (changed 8 2 "CHF") ≡ accepted francs)
     -- A buffer of 32,768 bytes or more, a sheet of 65,536 or fewer; 65,536 × refusal + line, or the length; what the buffer then holds
     × (answer 32_767 [] ≡ refused 1 0) × (answer 32_768 (replicate 65_537 0) ≡ refused 2 0) × (answer 32_768 (replicate 65_536 0) ≡ refused 3 1)
     × (numberOf (refused 12 501) ≡ 786_933) × (bufferAfter (refused 12 501) (ascii "wxyz") ≡ ascii "wxyz")
     × (numberOf (accepted (ascii "AB")) ≡ 2) × (bufferAfter (accepted (ascii "AB")) (ascii "wxyz") ≡ ascii "AByz")
+    -- A question: a currency and a class of the sheet; a short buffer or a bad sheet is refused first
+    × (map (λ currency. explained 32_768 sheet (ascii currency) 6) ("EU" ∷ "EURO" ∷ "USD" ∷ "" ∷ []) ≡ replicate 4 (refused 13 0))
+    × (map (λ n. explained 32_768 sheet (ascii "EUR") n) (0 ∷ 5 ∷ 8 ∷ []) ≡ replicate 3 (refused 13 0))
+    × (explained 32_767 sheet (ascii "USD") 0 ≡ refused 1 0) × (explained 32_768 (changed 2 1 "19991231") (ascii "USD") 0 ≡ refused 7 2)
 
 -- The claim
 pub limits : Limits
 unfolding nearest rounded isOpen workingAfter lines numberIn dateIn hasCodeForm hasCheckDigit isCode digits valuedFrom rowsFrom readSheet summed offsetRow offsetAll classLine currencyLines reportOf
-limits = (refl, refl, refl, refl, refl, refl, refl, refl, refl, refl, refl, refl, refl, refl, refl, refl, refl, refl, refl, refl, refl, refl, refl, refl, refl, refl, refl, refl, refl, refl, refl, refl, refl, refl, refl, refl, refl, refl, refl, refl, refl, refl, refl, refl, refl, refl, refl, refl, refl, refl, refl, refl, refl, refl, refl, refl, refl, refl, refl, refl, refl, refl, refl, refl, refl, refl, refl, refl, refl, refl, refl, refl, refl, refl, refl, refl, refl, refl, refl, refl, refl, refl, refl, refl, refl, refl, refl, refl, refl, refl, refl)
+limits = (refl, refl, refl, refl, refl, refl, refl, refl, refl, refl, refl, refl, refl, refl, refl, refl, refl, refl, refl, refl, refl, refl, refl, refl, refl, refl, refl, refl, refl, refl, refl, refl, refl, refl, refl, refl, refl, refl, refl, refl, refl, refl, refl, refl, refl, refl, refl, refl, refl, refl, refl, refl, refl, refl, refl, refl, refl, refl, refl, refl, refl, refl, refl, refl, refl, refl, refl, refl, refl, refl, refl, refl, refl, refl, refl, refl, refl, refl, refl, refl, refl, refl, refl, refl, refl, refl, refl, refl, refl, refl, refl, refl, refl, refl, refl, refl, refl, refl, refl, refl, refl)

@@ -3,6 +3,7 @@ use Prim.Native.Nat.{ℕ, _+_}
 use mathlib.Core.Bool.{Bool, true, false, _&&_}
 use mathlib.Core.List.{List, [], _∷_, _++_}
 use mathlib.Core.Option.{Option, none, some}
+use mathlib.Core.Path.{_≡_}
 use lib.Dec.{leb}
 
 -- From a lowest to a highest, both counted (one unit for the three)
@@ -34,11 +35,6 @@ abbrev pub firstThat : {A : Type 0} → (A → Bool) → List A → Option A
 firstThat test [] = none
 firstThat test (a ∷ rest) = elim (test a) [ true ↦ some a | false ↦ firstThat test rest ]
 
--- One step after another, each from what the one before left
-abbrev pub inTurn : {A S : Type 0} → (A → S → S) → List A → S → S
-inTurn step [] s = s
-inTurn step (a ∷ rest) s = inTurn step rest (step a s)
-
 -- Whether something is there
 abbrev pub given : {A : Type 0} → Option A → Bool
 given none = false
@@ -59,3 +55,8 @@ some a >>= next = next a
 pub data Each {A : Type 0} (P : A → Type 0) : List A → Type 0 where
   nil : Each P []
   cons : {a : A} {rest : List A} → P a → Each P rest → Each P (a ∷ rest)
+
+-- Each entry comes before those behind it, by a test
+pub data InOrder {A : Type 0} (first : A → A → Bool) : List A → Type 0 where
+  ended : InOrder first []
+  ahead : {a : A} {rest : List A} → Each (λ b. first a b ≡ true) rest → InOrder first rest → InOrder first (a ∷ rest)

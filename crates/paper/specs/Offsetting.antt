@@ -6,13 +6,13 @@ use mathlib.Core.Option.{Option·getD}
 use lib.Dec.{eqb}
 use lib.IntN.{pos, _-ℤ_}
 use lib.ListN.{getD, set}
-use Rattle.paper.specs.Units.{Class, Currency, Factor, Cents, SignedCents, Whole, SignedWhole}
-use Rattle.paper.specs.Lists.{only, inTurn}
+use Rattle.paper.specs.Units.{Class, Code, Currency, Factor, Cents, SignedCents, Whole, SignedWhole}
+use Rattle.paper.specs.Lists.{only}
 use Rattle.paper.specs.Rounding.{nearest}
 use Rattle.paper.specs.Signs.{aboveZero, belowZero}
 use Rattle.paper.specs.Text.{same}
 use Rattle.paper.specs.Rows.{ClassRow, PriorityRow, SecurityRow, Tables}
-use Rattle.paper.specs.Valuation.{Valued, signedWorthsIn, netOf, classOf}
+use Rattle.paper.specs.Valuation.{Valued, valuedIn, signedWorthsIn, netOf, classOf}
 
 -- The positions of all classes in one currency, whole units: the list has each class's at the place of its number
 pub record Book : Type 0 where
@@ -23,15 +23,20 @@ pub record Book : Type 0 where
 abbrev pub position : List Whole → Class → Whole
 position ps n = getD ps n 0
 
--- A security's class, and its net in whole units
+-- A security by its code, with its class, and its net in whole units
 pub record Netted : Type 0 where
+  pub code : Code
   pub class : Class
   pub net : SignedWhole
 
 -- The net of a security, from the margined trades
 abbrev pub nettedIn : List ClassRow → List Valued → SecurityRow → Netted
 nettedIn cs vs s =
-    record { class = Option·getD (classOf cs (s .kind) (s .duration)) 0; net = netOf (signedWorthsIn (s .code) vs) }
+    record {
+      code = s .code;
+      class = Option·getD (classOf cs (s .kind) (s .duration)) 0;
+      net = netOf (signedWorthsIn (s .code) vs);
+    }
 
 -- The nets of a currency's securities
 abbrev pub netsIn : Tables → List Valued → Currency → List Netted
@@ -79,9 +84,32 @@ offsetRow o b =
       | false ↦ offset (o .factor) (o .second) (o .first) (offset (o .factor) (o .first) (o .second) b)
     ]
 
--- All rows in their order, each from what the one before left
+-- A row's turn: the positions that it met, and those that it left, whole units
+pub record Turn : Type 0 where
+  pub met : Book
+  pub left : Book
+
+-- The walk: all rows in their order, each from what the one before left
+abbrev pub turns : List PriorityRow → Book → List Turn
+turns [] b = []
+turns (o ∷ os) b = record { met = b; left = offsetRow o b } ∷ turns os (offsetRow o b)
+
+-- What the last turn left, of turns that began with a book
+abbrev pub lastLeft : Book → List Turn → Book
+lastLeft b [] = b
+lastLeft b (u ∷ us) = lastLeft (u .left) us
+
+-- What all rows leave
 unfoldable pub offsetAll : List PriorityRow → Book → Book
-offsetAll os b = inTurn offsetRow os b
+offsetAll os b = lastLeft b (turns os b)
+
+-- The opening positions of a currency, whole units
+abbrev pub openingIn : Tables → Currency → Book
+openingIn t c = opening (netsIn t (valuedIn t) c)
+
+-- ... and what all rows leave of them
+abbrev pub remainingIn : Tables → Currency → Book
+remainingIn t c = offsetAll (t .priorities) (openingIn t c)
 
 -- Class margin (01): deposit factor × larger remaining side / 10,000, whole units
 abbrev pub margin : Factor → Whole → Whole → Whole

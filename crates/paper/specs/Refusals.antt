@@ -1,4 +1,4 @@
--- Refusals (01, "Report and refusal numbers"), 6 to 12 (1 and 2 stand in Answer, 3 to 5 in Sheet, and the forms of
+-- Refusals (01, "Report and refusal numbers"), 6 to 12 (1, 2 and 13 stand in Answer, 3 to 5 in Sheet, and the forms of
 -- numbers and letters, which are 6 too, in Rows): what each row kind is, with its rules in rising number; the first that
 -- fails is given. A rule is a number and a test. The test says what must hold; document 01's table says what is then wrong.
 -- `above` are the rows of the section above the row, the nearest first.

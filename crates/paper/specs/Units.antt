@@ -24,7 +24,7 @@ Fields = List Text
 abbrev pub Room : Type 0
 Room = ℕ
 
--- A refusal number: 1..12
+-- A refusal number: 1..13
 abbrev pub Number : Type 0
 Number = ℕ
 

@@ -22,7 +22,7 @@ use Rattle.priorities.specs.declared.PriorityRead.the-variants as reads
 use Rattle.priorities.specs.declared.PrioritySection.{PrioritySection}
 
 -- What is known of a class is whether it has a C row
-known-at : (many : ℕ) (first n : ℕ) (cs : List paper.ClassRow) → n < many → getD (knownFrom many first cs) n false ≡ hasClass cs (first + n)
+pub known-at : (many : ℕ) (first n : ℕ) (cs : List paper.ClassRow) → n < many → getD (knownFrom many first cs) n false ≡ hasClass cs (first + n)
 known-at zero first n cs h = absurd (omega arith)
 known-at (suc many) first zero cs h = ap (hasClass cs) (omega arith)
 known-at (suc many) first (suc n) cs h = known-at many (suc first) n cs (omega arith) ∙ ap (hasClass cs) (omega arith)

@@ -76,7 +76,7 @@ fn priority_number(read: PriorityRead) -> Number
 }
 
 // Which class numbers have a C row.
-fn known_classes(classes: Classes) -> [bool; 41]
+pub fn known_classes(classes: Classes) -> [bool; 41]
     requires { ⌜ (classes .count ≤ 40) × (ranged classes ≡ true) ⌝ }
     ensures { λ r. ⌜ r ≡ knownOf (paperClasses classes) ⌝ }
 {

@@ -1,2 +1,2 @@
-mod Loops
+pub mod Loops
 pub mod Paper

@@ -1,11 +1,11 @@
 -- A loop that writes a text for each rank, one behind the other: what it has written is the texts so far, joined.
 use Prim.Native.Nat.{ℕ, zero, suc, _+_, _≤_, _<_}
-use native.Mathlib.Nat.{add-zero, zero-add, le-of-suc-le-suc, not-suc-le-zero}
+use native.Mathlib.Nat.{zero-add, le-of-suc-le-suc, not-suc-le-zero}
 use native.Mathlib.Numerals.{add-one}
 use native.Mathlib.Omega.{arith}
 use mathlib.Core.List.{List, [], _∷_, _++_, append-assoc, append-nil}
-use mathlib.Core.Path.{_≡_, refl, sym, ap, _∙_}
-use lib.ListN.{length, length-append, take-append-drop}
+use mathlib.Core.Path.{_≡_, sym, ap, _∙_}
+use lib.ListN.{length, length-append}
 use Rattle.paper.specs.Units.{Text}
 use Rattle.paper.specs.Lists.{joinedUp}
 use Rattle.lines.specs.Written.{Place, Wrote}
@@ -17,10 +17,6 @@ use Rattle.margin.proofs.Forwards.{ranks-more}
 pub as-long : (t : Text) (at : Place) (b : Text) {next : Place} {after : Text} → at + length t ≤ length b → Wrote t at b next after
     → length after ≡ length b
 as-long t at b fits w = ap length (w .1) ∙ written-length t at b fits
-
--- No text leaves all as it was
-pub none-written : (at : Place) (b : Text) → Wrote [] at b at b
-none-written at b = rw add-zero (refl, sym (take-append-drop at b))
 
 -- One more text stands behind those joined
 joined-last : (ts : List Text) (t : Text) → joinedUp (ts ++ (t ∷ [])) ≡ joinedUp ts ++ t

@@ -14,14 +14,14 @@ use Rattle.paper.specs.Rows as paper
 use Rattle.paper.specs.Rows.{SecurityRow, TradeRow, Tables}
 use Rattle.paper.specs.Currencies.{currencies}
 use Rattle.paper.specs.Valuation.{margined, valued, valuedFrom, valuedIn}
-use Rattle.paper.specs.Offsetting.{position}
+use Rattle.paper.specs.Offsetting.{position, remainingIn}
 use Rattle.paper.specs.Report.{tradeLine, classLine, marginOf, currencyLines, reportOf}
 use Rattle.paper.specs.Bounds.{mostMark}
 use Rattle.paper.specs.Tables.{Admitted}
 use Rattle.paper.proofs.Lists.{each-map, each-made, each-all}
 use Rattle.paper.proofs.Bounds.{valued-facts}
 use Rattle.paper.proofs.Currencies.{each-currency}
-use Rattle.paper.proofs.Totals.{remainingIn, TableFacts, table-facts, currency-facts}
+use Rattle.paper.proofs.Totals.{TableFacts, table-facts, currency-facts}
 use Rattle.tables.specs.Numbers.{currencyNumber}
 use Rattle.tables.specs.Held.{noClass, noSecurity, noTrade, heldClass, heldSecurity, heldTables}
 use Rattle.tables.specs.declared.ClassRow.{ClassRow}
@@ -34,7 +34,7 @@ use Rattle.margin.proofs.Forwards.{ranks-made}
 use Rattle.margin.proofs.Trades.{Known, trades-known, tradeIn, security-held, valued-out, valued-own}
 use Rattle.margin.proofs.Paper.{tradesLine, letters, rising-currencies, currencies-few, rank-low}
 use Rattle.lines.specs.Written.{moneyText, markLine, positionLine, totalLine}
-use Rattle.lines.proofs.Currencies.{money-text}
+use Rattle.lines.proofs.Spelled.{money-text}
 use Rattle.report.specs.Texts.{moneyAt, marked, markText, positionText, currencyText, noFigures, linesOf, reportText, Writable}
 
 -- The paper's M lines of T rows that begin at a line

@@ -1,4 +1,3 @@
 mod Row
-mod Ranks
 mod Codes
 mod Turns

@@ -48,7 +48,7 @@ use Rattle.tables.specs.declared.Standing.{Standing}
 use Rattle.classes.proofs.Looked.{Classed, class-is, class-given, class-most, table-classed}
 use Rattle.securities.proofs.Codes.{lastOf, last-before}
 use Rattle.securities.proofs.Row.{payments-parts}
-use Rattle.securities.proofs.Ranks.{Currencied, moneyOf, rank-place, rank-has, each-there, money-known, money-longer, money-new}
+use Rattle.tables.proofs.Ranks.{Currencied, moneyOf, rank-place, rank-has, each-there, money-known, money-longer, money-new}
 
 -- What the rules of a row by itself say
 record Formed (s : paper.SecurityRow) : Type 0 where

@@ -10,6 +10,7 @@ ghost use lib.ListN.{length, drop};
 ghost use Rattle.paper.specs.Days.{newYears, day};
 ghost use Rattle.paper.specs.Units.{Date};
 ghost use Rattle.paper.specs.Refusals.{refused};
+ghost use Rattle.paper.specs.Answer.{tablesOf};
 ghost use Rattle.paper.specs.Text.{lines};
 ghost use Rattle.paper.specs.Sheet.{readTables, readSheet};
 ghost use Rattle.places.specs.Places.{endedLength};
@@ -84,8 +85,8 @@ fn tables_from(s: &[u8], years: &[Day; 400], from: Place, end: Place, today: Day
     }
 }
 
-// A sheet of at most 65,536 bytes to its tables, or to its refusal and line.
-pub fn read_sheet(s: &[u8]) -> Sheet
+// A sheet of at most 65,536 bytes to its tables, or to the refusal of a line.
+fn read_lines(s: &[u8]) -> Sheet
     requires { ⌜ length (now s) ≤ 65_536 ⌝ }
     ensures { λ r. ⌜ r ≡ heldSheet (readSheet (now (s .entry))) ⌝ }
 {
@@ -99,4 +100,20 @@ pub fn read_sheet(s: &[u8]) -> Sheet
         return refused(head::date_number(read), 2);
     };
     tables_from(s, &years, next, places::ended(s), today)
+}
+
+// A sheet to its tables, or to its refusal and line: 1 by the room of the report buffer, 2 by its size, then by its lines.
+pub fn read_sheet(
+    s: &[u8],
+    room: usize, // bytes
+) -> Sheet
+    ensures { λ r. ⌜ r ≡ heldSheet (tablesOf room (now (s .entry))) ⌝ }
+{
+    if room < 32768 {
+        return refused(1, 0);
+    }
+    if 65536 < s.len() {
+        return refused(2, 0);
+    }
+    read_lines(s)
 }

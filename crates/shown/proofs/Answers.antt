@@ -1,21 +1,21 @@
--- What the number that the kit gives tells of its answer, where the buffer has 32,768 bytes or more.
+-- What the number that an entry gives tells of its answer.
 use Prim.Native.Nat.{ℕ, _+_, _/_, _%_, _≤_, _<_}
 use native.Mathlib.Omega.{arith}
 use mathlib.Core.List.{[], _∷_, _++_}
-use mathlib.Core.Path.{_≡_, refl, sym, ap, ap₂, _∙_}
-use lib.ListN.{length, drop}
+use mathlib.Core.Path.{_≡_, sym, ap, _∙_}
+use borrow.Author.Tests.{lt-ltb, le-ltb}
+use lib.ListN.{length, drop, length-append, length-drop}
 use lib.Seq.{length-take-le}
-use Rattle.paper.specs.Units.{Text, Fields, Room}
+use Rattle.paper.specs.Units.{Text, Fields}
 use Rattle.paper.specs.Text.{ascii, digits}
-use Rattle.paper.specs.Answer.{Answer, answer, refused, accepted, numberOf, bufferAfter, kit}
+use Rattle.paper.specs.Answer.{Answer, refused, accepted, handedBack}
 use Rattle.paper.specs.Demands.{IsAnswer}
 use Rattle.paper.proofs.Digits.{digits-length}
 use Rattle.paper.proofs.Lengths.{line-length}
-use Rattle.paper.proofs.Demands.{gives-answer, is-answer}
 use Rattle.io.specs.Counts.{Counts}
 use Rattle.lines.specs.Written.{Place, Wrote, refusalLine}
 use Rattle.lines.proofs.Written.{written-length}
-use Rattle.shown.specs.Shown.{shownText}
+use Rattle.shown.specs.Shown.{Told, shownText}
 
 -- A refusal's line is short
 pub refusal-short : (number line : ℕ) → number < 100 → line < 100_000 → length (refusalLine number line) ≤ 32_768
@@ -24,12 +24,9 @@ refusal-short number line n l =
     omega (arith, line-length fields (omega arith), digits-length number 1 n, digits-length line 4 l)
 
 -- What is shown of an answer fits 32,768 bytes
-pub shown-fits : (room : Room) (sheet : Text) → length (shownText (answer room sheet)) ≤ 32_768
-shown-fits room sheet = go (answer room sheet) (is-answer room sheet)
-  where
-    go : (a : Answer) → IsAnswer a → length (shownText a) ≤ 32_768
-    go (refused number line) (low, high, below) = refusal-short number line (omega arith) (omega arith)
-    go (accepted report) fits = fits
+pub shown-fits : (a : Answer) → IsAnswer 13 a → length (shownText a) ≤ 32_768
+shown-fits (refused number line) (low, high, below) = refusal-short number line (omega arith) (omega arith)
+shown-fits (accepted report) fits = fits
 
 -- What is written at a buffer's start, and fits it, is counted in it
 pub counted : (t b : Text) (next : Place) (after : Text) → length t ≤ length b → Wrote t 0 b next after → Counts next after
@@ -38,38 +35,38 @@ counted t b next after h w =
     let low : next ≤ length after = omega (arith, w .0) in
     (low, sym (length-take-le next after low))
 
-module _ (sheet buffer : Text) (number : ℕ) (after : Text) (given : _≡_ {A = ℕ × Text} (number, after) (kit sheet buffer)) where
-  -- The number and the bytes are those of the answer
-  gives : (a : Answer) → answer (length buffer) sheet ≡ a → _≡_ {A = ℕ × Text} (number, after) (numberOf a, bufferAfter a buffer)
-  gives a e = given ∙ gives-answer sheet buffer a e
-
-  -- Below 65,536: a report, at the buffer's start
-  pub report-shown : number < 65_536 → Wrote (shownText (answer (length buffer) sheet)) 0 buffer number after
-  report-shown h = go (answer (length buffer) sheet) refl (is-answer (length buffer) sheet)
+-- What a number and a buffer that an answer hands back tell of it
+module _ (a : Answer) (is : IsAnswer 13 a) (buffer : Text) {number : ℕ} {left : Text} (given : _≡_ {A = ℕ × Text} (number, left) (handedBack a buffer)) where
+  -- The number is that of a refusal 1..13, or below 65,536
+  pub number-low : number / 65_536 < 100
+  number-low = go a is given
     where
-      go : (a : Answer) → answer (length buffer) sheet ≡ a → IsAnswer a → Wrote (shownText (answer (length buffer) sheet)) 0 buffer number after
-      go (refused n l) e (low, high, below) =
-          let same = ap (λ (x : ℕ × Text). x .0) (gives (refused n l) e) in
-          absurd (omega (arith, same, low))
-      go (accepted report) e fits =
-          let same = gives (accepted report) e in
-          let counted : length report ≡ 0 + length report = omega arith in
-          rw e
-          (ap (λ (x : ℕ × Text). x .0) same ∙ counted, ap (λ (x : ℕ × Text). x .1) same ∙ ap (λ (n : ℕ). report ++ drop n buffer) counted)
+      go : (a : Answer) → IsAnswer 13 a → _≡_ {A = ℕ × Text} (number, left) (handedBack a buffer) → number / 65_536 < 100
+      go (refused n l) (low, high, below) same = omega (arith, ap (λ (x : ℕ × Text). x .0) same, high, below)
+      go (accepted report) fits same = omega (arith, ap (λ (x : ℕ × Text). x .0) same, fits)
 
-  -- From 65,536 on: a refusal, and the buffer as it was
-  pub refusal-shown : 65_536 ≤ number
-      → (answer (length buffer) sheet ≡ refused (number / 65_536) (number % 65_536)) × (after ≡ buffer) × (number / 65_536 < 100)
-  refusal-shown h = go (answer (length buffer) sheet) refl (is-answer (length buffer) sheet)
+  -- The buffer is as long as it was
+  pub left-long : length (shownText a) ≤ length buffer → length left ≡ length buffer
+  left-long room = go a given room
     where
-      go : (a : Answer) → answer (length buffer) sheet ≡ a → IsAnswer a
-          → (answer (length buffer) sheet ≡ refused (number / 65_536) (number % 65_536)) × (after ≡ buffer) × (number / 65_536 < 100)
-      go (refused n l) e (low, high, below) =
-          let same = gives (refused n l) e in
+      go : (a : Answer) → _≡_ {A = ℕ × Text} (number, left) (handedBack a buffer) → length (shownText a) ≤ length buffer → length left ≡ length buffer
+      go (refused n l) same room = ap (λ (x : ℕ × Text). length (x .1)) same
+      go (accepted report) same room =
+          ap (λ (x : ℕ × Text). length (x .1)) same ∙ omega (arith, length-append report (drop (length report) buffer), length-drop (length report) buffer)
+
+  -- What is told by it is the answer's text, at the buffer's start
+  pub told-shown : {next : Place} {after : Text} → Told number left next after → Wrote (shownText a) 0 buffer next after
+  told-shown {next} {after} told = go a is given
+    where
+      go : (a : Answer) → IsAnswer 13 a → _≡_ {A = ℕ × Text} (number, left) (handedBack a buffer) → Wrote (shownText a) 0 buffer next after
+      go (refused n l) (low, high, below) same =
           let whole = ap (λ (x : ℕ × Text). x .0) same in
-          let first : n ≡ number / 65_536 = omega (arith, whole, below) in
-          let second : l ≡ number % 65_536 = omega (arith, whole, below) in
-          (e ∙ ap₂ refused first second, ap (λ (x : ℕ × Text). x .1) same, omega (arith, first, high))
-      go (accepted report) e fits =
-          let same = ap (λ (x : ℕ × Text). x .0) (gives (accepted report) e) in
-          absurd (omega (arith, same, fits))
+          let first : number / 65_536 ≡ n = omega (arith, whole, below) in
+          let second : number % 65_536 ≡ l = omega (arith, whole, below) in
+          let written : Wrote (refusalLine (number / 65_536) (number % 65_536)) 0 left next after = rw (le-ltb number 65_536 (omega (arith, whole, low)), Told) at told in
+          rw (first, second, ap (λ (x : ℕ × Text). x .1) same) at written
+      go (accepted report) fits same =
+          let whole = ap (λ (x : ℕ × Text). x .0) same in
+          let counted : length report ≡ 0 + length report = omega arith in
+          let text : (next ≡ number) × (after ≡ left) = rw (lt-ltb number 65_536 (omega (arith, whole, fits)), Told) at told in
+          (text .0 ∙ whole ∙ counted, text .1 ∙ ap (λ (x : ℕ × Text). x .1) same ∙ ap (λ (n : ℕ). report ++ drop n buffer) counted)

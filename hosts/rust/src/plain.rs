@@ -1,4 +1,5 @@
-//! Document 01 in plain safe Rust, written for speed: the kit is held against its answers and against its time.
+//! Document 01 in plain safe Rust, written for speed: the kit is held against its answers and against its time. And the
+//! question of document 02, c.
 //!
 //! One pass over the sheet fills tables of fixed size, the figures are worked out from the tables, and only then is
 //! the report written; nothing is allocated. The three steps are public so that each can be timed.
@@ -7,6 +8,7 @@
 
 mod codes;
 pub mod days;
+mod explain;
 mod fields;
 mod figures;
 mod read;
@@ -24,12 +26,28 @@ pub const LEAST_ROOM: usize = 32_768;
 
 /// The same entry as the kit's: the report's length, or 65,536 × refusal + line and the buffer untouched.
 pub fn brm_margin(sheet: &[u8], report: &mut [u8]) -> u64 {
-    if report.len() < LEAST_ROOM {
-        return Refusal { number: 1, line: 0 }.answer();
-    }
     let mut tables = Tables::EMPTY;
-    match read(sheet, &mut tables) {
+    match read_with_room(sheet, report.len(), &mut tables) {
         Err(refusal) => refusal.answer(),
         Ok(()) => write(&tables, &figures(&tables), report) as u64,
     }
+}
+
+/// The kit's second entry: the explanation's length, or 65,536 × refusal + line and the buffer untouched.
+pub fn brm_explain(sheet: &[u8], currency: &[u8], class: u64, report: &mut [u8]) -> u64 {
+    let mut tables = Tables::EMPTY;
+    let read = read_with_room(sheet, report.len(), &mut tables);
+    match read.and_then(|()| explain::asked(&tables, currency, class)) {
+        Err(refusal) => refusal.answer(),
+        Ok(asked) => explain::explain(&tables, asked, report) as u64,
+    }
+}
+
+/// Fills empty tables from the sheet, if the buffer has the room in bytes.
+#[inline(always)]
+fn read_with_room(sheet: &[u8], room: usize, tables: &mut Tables) -> Result<(), Refusal> {
+    if room < LEAST_ROOM {
+        return Err(Refusal { number: 1, line: 0 });
+    }
+    read(sheet, tables)
 }

@@ -1,14 +1,15 @@
 //! Sheets from a seed. Each case is made from the seed and its own number alone, so any one can be made again.
 //!
 //! About half are sheets that obey every rule, from tiny to the largest, full of border values and rounding ties.
-//! The others break one rule at a chosen line, or two, or are damaged without a plan. Where it is certain what the
-//! answer must be, the case says so.
+//! The others break one rule at a chosen line, or two, or are damaged without a plan. Each comes with a question about
+//! it. Where it is certain what an answer must be, the case says so.
 
 mod calendar;
 mod chance;
 mod codes;
 mod damage;
 mod draft;
+mod questions;
 mod rules;
 mod texts;
 mod valid;
@@ -19,6 +20,7 @@ use draft::Draft;
 use valid::Size;
 
 pub use codes::check_digit;
+pub use questions::{about_security, Question};
 
 /// What the answer must be, as far as the making of the case tells.
 #[derive(Clone, Copy, Debug, PartialEq, Eq)]
@@ -28,11 +30,13 @@ pub enum Aim {
     Open,
 }
 
-/// A sheet, and the length of the report buffer that is lent for it, in bytes.
+/// A sheet, a question about it, and the length of the report buffer that is lent for either answer, in bytes.
 pub struct Case {
     pub sheet: Vec<u8>,
+    pub question: Question,
     pub room: usize,
-    pub aim: Aim,
+    pub aim: Aim,          // of the report
+    pub question_aim: Aim, // of the explanation
 }
 
 /// The case of that number.
@@ -50,7 +54,9 @@ pub fn case(seed: u64, number: u64) -> Case {
     };
     let room = room(chance);
     let aim = if room < LEAST_ROOM { Aim::Refused(1, 0) } else { aim };
-    Case { sheet, room, aim }
+    let (question, there) = questions::question(chance, &sheet);
+    let question_aim = if aim == Aim::Accepted && !there { Aim::Refused(13, 0) } else { aim };
+    Case { sheet, question, room, aim, question_aim }
 }
 
 /// One of the largest sheets that the rules allow: every table full, every trade margined, eight currencies, and

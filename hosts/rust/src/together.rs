@@ -1,4 +1,5 @@
-//! Both implementations on one case: the same number back, and every byte of the buffer the same.
+//! Both implementations on one case, its report and its explanation: the same number back, and every byte of the buffer
+//! the same.
 
 use crate::sheets::{Aim, Case};
 use crate::{kit, plain};
@@ -13,12 +14,35 @@ pub struct Together {
     plain: Vec<u8>,
 }
 
+/// A text's length in bytes, or 65,536 × refusal + line.
+#[derive(Clone, Copy, Debug, PartialEq, Eq)]
+pub struct Answers {
+    pub report: u64,
+    pub explanation: u64,
+}
+
 impl Together {
-    /// The answer both gave, or what is wrong with it.
-    pub fn run(&mut self, case: &Case) -> Result<u64, String> {
+    /// The answers both gave, or what is wrong with one.
+    pub fn run(&mut self, case: &Case) -> Result<Answers, String> {
+        let report = self.hold(case, case.aim, kit::brm_margin, plain::brm_margin)?;
+        let asked = &case.question;
+        let kit = |sheet: &[u8], report: &mut [u8]| kit::brm_explain(sheet, &asked.currency, asked.class, report);
+        let plain = |sheet: &[u8], report: &mut [u8]| plain::brm_explain(sheet, &asked.currency, asked.class, report);
+        let explanation = self.hold(case, case.question_aim, kit, plain);
+        let explanation = explanation.map_err(|wrong| format!("to the question {wrong}"))?;
+        let fits =
+            if report < 65_536 { explanation < 65_536 || explanation == 13 * 65_536 } else { explanation == report };
+        if !fits {
+            return Err(format!("both answer {}, and to the question {}", name(report), name(explanation)));
+        }
+        Ok(Answers { report, explanation })
+    }
+
+    /// The answer both entries gave, or what is wrong with it.
+    fn hold(&mut self, case: &Case, aim: Aim, kit: impl Entry, plain: impl Entry) -> Result<u64, String> {
         let shift = case.sheet.len();
-        let kit = call(kit::brm_margin, &case.sheet, case.room, &mut self.kit, shift);
-        let plain = call(plain::brm_margin, &case.sheet, case.room, &mut self.plain, shift);
+        let kit = call(kit, &case.sheet, case.room, &mut self.kit, shift);
+        let plain = call(plain, &case.sheet, case.room, &mut self.plain, shift);
         if kit != plain {
             return Err(format!("the kit answers {}, the plain one {}", name(kit), name(plain)));
         }
@@ -32,7 +56,7 @@ impl Together {
         if (0..GUARD).chain(written..self.plain.len()).any(touched) {
             return Err(format!("both answer {}, but bytes are touched that must not be", name(plain)));
         }
-        match case.aim {
+        match aim {
             Aim::Accepted if plain >= 65_536 => Err(format!("meant to be accepted, but both answer {}", name(plain))),
             Aim::Refused(number, line) if plain != 65_536 * number + line => {
                 Err(format!("meant to be refused {number} on line {line}, but both answer {}", name(plain)))
@@ -42,8 +66,12 @@ impl Together {
     }
 }
 
+/// A sheet and a lent buffer to an answer.
+trait Entry: Fn(&[u8], &mut [u8]) -> u64 {}
+impl<F: Fn(&[u8], &mut [u8]) -> u64> Entry for F {}
+
 /// Calls one of them on a part of a buffer filled with a pattern.
-fn call(entry: impl Fn(&[u8], &mut [u8]) -> u64, sheet: &[u8], room: usize, buffer: &mut Vec<u8>, shift: usize) -> u64 {
+fn call(entry: impl Entry, sheet: &[u8], room: usize, buffer: &mut Vec<u8>, shift: usize) -> u64 {
     buffer.clear();
     buffer.extend((0..room + 2 * GUARD).map(|at| pattern(at, shift)));
     entry(sheet, &mut buffer[GUARD..GUARD + room])
@@ -57,39 +85,67 @@ fn pattern(at: usize, shift: usize) -> u8 {
 /// An answer in words.
 pub fn name(answer: u64) -> String {
     match (answer / 65_536, answer % 65_536) {
-        (0, length) => format!("a report of {length} bytes"),
+        (0, length) => format!("a text of {length} bytes"),
         (refusal, line) => format!("refusal {refusal} on line {line}"),
     }
 }
 
 /// How often each answer came: place 0 is acceptance, the others the refusals.
-#[derive(Default)]
-pub struct Tally {
-    counts: [u64; 13],
-}
+struct Counts<const N: usize>([u64; N]);
 
-impl Tally {
-    pub fn add(&mut self, answer: u64) {
-        self.counts[(answer / 65_536).min(12) as usize] += 1;
-    }
-
-    pub fn accepted(&self) -> u64 {
-        self.counts[0]
-    }
-
-    pub fn total(&self) -> u64 {
-        self.counts.iter().sum()
+impl<const N: usize> Counts<N> {
+    fn add(&mut self, answer: u64) {
+        self.0[(answer / 65_536).min(N as u64 - 1) as usize] += 1;
     }
 
     /// The refusals that never came, and 0 if nothing was accepted.
-    pub fn missing(&self) -> Vec<usize> {
-        (0..self.counts.len()).filter(|&number| self.counts[number] == 0).collect()
+    fn missing(&self) -> Vec<usize> {
+        (0..N).filter(|&number| self.0[number] == 0).collect()
+    }
+}
+
+impl<const N: usize> std::fmt::Display for Counts<N> {
+    fn fmt(&self, to: &mut std::fmt::Formatter) -> std::fmt::Result {
+        write!(to, "accepted {}", self.0[0])?;
+        (1..N).try_for_each(|number| write!(to, ", refused {number}: {}", self.0[number]))
+    }
+}
+
+/// How often each answer came, to sheets and to questions about them.
+pub struct Tally {
+    reports: Counts<13>,
+    explanations: Counts<14>,
+}
+
+impl Default for Tally {
+    fn default() -> Self {
+        Tally { reports: Counts([0; 13]), explanations: Counts([0; 14]) }
+    }
+}
+
+impl Tally {
+    pub fn add(&mut self, answers: Answers) {
+        self.reports.add(answers.report);
+        self.explanations.add(answers.explanation);
+    }
+
+    /// Of the sheets.
+    pub fn accepted(&self) -> u64 {
+        self.reports.0[0]
+    }
+
+    pub fn total(&self) -> u64 {
+        self.reports.0.iter().sum()
+    }
+
+    /// The answers that never came to a sheet, and those that never came to a question.
+    pub fn missing(&self) -> [Vec<usize>; 2] {
+        [self.reports.missing(), self.explanations.missing()]
     }
 }
 
 impl std::fmt::Display for Tally {
     fn fmt(&self, to: &mut std::fmt::Formatter) -> std::fmt::Result {
-        write!(to, "{} sheets: accepted {}", self.total(), self.accepted())?;
-        (1..self.counts.len()).try_for_each(|number| write!(to, ", refused {number}: {}", self.counts[number]))
+        write!(to, "{} sheets: {}\ntheir questions: {}", self.total(), self.reports, self.explanations)
     }
 }

@@ -1,8 +1,8 @@
 //! The generator's own check: that its sheets reach every end of every range, every rounding tie and every turn of
-//! the rules. Without it, agreement on many sheets could mean agreement on few things.
+//! the rules, and its questions every kind of answer. Without it, agreement on many could mean agreement on few things.
 
 use gronnhyl_host::plain::{self, days, Tables};
-use gronnhyl_host::sheets::case;
+use gronnhyl_host::sheets::{case, Case, Question};
 use std::collections::BTreeMap;
 
 const SEED: u64 = 20_190_612;
@@ -23,7 +23,7 @@ impl Seen {
     /// even one alone.
     fn tie(&mut self, place: &str, product: u64, divisor: u64) {
         if 2 * (product % divisor) == divisor {
-            self.note(&tied(place, product / divisor % 2 == 0), true);
+            self.note(&tied(place, (product / divisor).is_multiple_of(2)), true);
         }
     }
 }
@@ -84,6 +84,7 @@ fn the_generator_reaches_everything() {
         let answer = plain::brm_margin(&case.sheet, &mut report[..case.room]);
         if answer >= 65_536 {
             let (refusal, line) = (answer / 65_536, answer % 65_536);
+            wrong_question(&case, refusal, &mut seen);
             let (first, last) = lines.entry(refusal).or_insert((line, line));
             (*first, *last) = (line.min(*first), line.max(*last));
             match refusal {
@@ -96,8 +97,15 @@ fn the_generator_reaches_everything() {
         }
         let mut tables = Tables::EMPTY;
         assert!(plain::read(&case.sheet, &mut tables).is_ok());
-        figures(&tables, &mut seen);
+        let nets = figures(&tables, &mut seen); // cents
         text(&case.sheet, &mut seen, &mut ranges);
+        let question = &case.question;
+        match plain::brm_explain(&case.sheet, &question.currency, question.class, &mut report) {
+            length @ 0..65_536 => {
+                Explained::new(question, &tables, &report[..length as usize]).note(&nets, &mut seen);
+            }
+            _ => lacking(question, &tables, &mut seen),
+        }
     }
     println!("{:#?}\n{ranges:?}\nearliest and latest line of each refusal: {lines:?}", seen.0);
     let never: Vec<_> = seen.0.iter().filter(|(_, &count)| count == 0).collect();
@@ -116,8 +124,8 @@ fn the_generator_reaches_everything() {
     }
 }
 
-/// Rounding ties, and what the positions look like.
-fn figures(tables: &Tables, seen: &mut Seen) {
+/// Rounding ties, and what the positions look like. Gives the net of each security, cents.
+fn figures(tables: &Tables, seen: &mut Seen) -> Vec<i64> {
     let mut nets = vec![0i64; tables.security_count]; // cents
     for trade in &tables.trades[..tables.trade_count] {
         let security = &tables.securities[trade.security as usize];
@@ -175,6 +183,140 @@ fn figures(tables: &Tables, seen: &mut Seen) {
     }
     seen.note("eight currencies", tables.currency_count == 8);
     seen.note("500 margined trades", tables.trade_count == 500);
+    nets
+}
+
+/// An explanation by the fields of its lines, and what it was given for.
+struct Explained<'a> {
+    question: &'a Question,
+    tables: &'a Tables,
+    class: u8, // place in the table of classes
+    lines: Vec<Vec<&'a str>>,
+}
+
+impl<'a> Explained<'a> {
+    fn new(question: &'a Question, tables: &'a Tables, text: &'a [u8]) -> Self {
+        let text = std::str::from_utf8(text).expect("an explanation is plain text");
+        let lines = text.lines().map(|line| line.split(';').collect()).collect();
+        let class = tables.classes.iter().position(|class| class.number as u64 == question.class);
+        Explained { question, tables, class: class.expect("a class of the sheet") as u8, lines }
+    }
+
+    /// What it lists and what it leaves out, given the nets of all securities in cents.
+    fn note(&self, nets: &[i64], seen: &mut Seen) {
+        let listed = self.lines.iter().any(|line| line[0] == "P");
+        let (long, short) = self.rows(listed, seen); // whole units
+        let equal = long == short;
+        seen.note("a margin set by the long", long > short);
+        seen.note("a margin set by the short", long < short);
+        seen.note("a margin set by both sides, above zero", equal && long > 0);
+        seen.note("a class that rows took down to nothing", equal && long == 0 && listed);
+        seen.note("a class of the sheet without nets", !listed);
+        self.securities(nets, seen);
+    }
+
+    /// The long and the short that the P lines add up to, whole units.
+    fn opening(&self) -> (u64, u64) {
+        let (mut long, mut short) = (0, 0);
+        for line in self.lines.iter().filter(|line| line[0] == "P") {
+            let net: i64 = line[2].parse().expect("whole units");
+            *(if net < 0 { &mut short } else { &mut long }) += net.unsigned_abs();
+        }
+        (long, short)
+    }
+
+    /// What the R line of a row of the sheet says, off the long and off the short, if there is one; whole units.
+    fn taken(&self, row: usize) -> Option<(u64, u64)> {
+        let number = (3 + self.tables.class_count + row).to_string();
+        let line = self.lines.iter().find(|line| line[0] == "R" && line[1] == number)?;
+        Some((line[2].parse().expect("whole units"), line[3].parse().expect("whole units")))
+    }
+
+    /// What the rows took, and why some are left out. Gives the long and the short that remain, whole units.
+    fn rows(&self, listed: bool, seen: &mut Seen) -> (u64, u64) {
+        let rows = &self.tables.offsets[..self.tables.offset_count];
+        let names = |row: &plain::Offset| row.first == self.class || row.second == self.class;
+        seen.note("a class with nets that no row names", listed && !rows.iter().any(names));
+        let (mut long, mut short) = self.opening(); // whole units
+        for (place, row) in rows.iter().enumerate() {
+            let pair = row.first != row.second;
+            let taken = self.taken(place);
+            let (off_long, off_short) = taken.unwrap_or((0, 0)); // whole units
+            let both = off_long > 0 && off_short > 0;
+            seen.note("a pair took from the long of the class alone", off_long > 0 && off_short == 0);
+            seen.note("a pair took from the short of the class alone", off_short > 0 && off_long == 0);
+            seen.note("a pair took from both sides of the class, not the same", both && off_long != off_short);
+            seen.note("a pair took from both sides of the class, the same", both && pair && off_long == off_short);
+            seen.note("a row of the class alone took", both && !pair);
+            let left_out = names(row) && taken.is_none() && listed;
+            let least = long.min(short); // whole units
+            seen.note("a row left out for its factor of 0", left_out && row.factor == 0);
+            seen.note("a row of a pair left out", left_out && pair && row.factor > 0);
+            seen.note("a row left out for an empty side", left_out && !pair && row.factor > 0 && least == 0);
+            seen.note("a row left out for a share that rounds to 0", left_out && !pair && row.factor > 0 && least > 0);
+            (long, short) = (long - off_long, short - off_short);
+        }
+        (long, short)
+    }
+
+    fn securities(&self, nets: &[i64], seen: &mut Seen) {
+        let tables = self.tables;
+        for (place, security) in tables.securities[..tables.security_count].iter().enumerate() {
+            let same_class = security.class == self.class;
+            let same_currency = self.question.currency == tables.currencies[security.currency as usize];
+            let own = same_class && same_currency;
+            let trades = tables.trades[..tables.trade_count].iter(); // the margined ones
+            let trades = trades.filter(|trade| trade.security as usize == place).count();
+            let (net, size) = (nets[place], nets[place].unsigned_abs()); // cents
+            seen.note("a security left out, its trades cancel", own && trades > 1 && net == 0);
+            seen.note("a security left out, without margined trades", own && trades == 0);
+            seen.note("a security left out, its net is below half a unit", own && (1..50).contains(&size));
+            seen.note("a security listed for a net of 50 cents", own && net == 50);
+            seen.note("a security listed for a net of -50 cents", own && net == -50);
+            seen.note("a net of the class in another currency", same_class && !same_currency && size >= 50);
+            seen.note("a net of the currency in another class", same_currency && !same_class && size >= 50);
+        }
+    }
+}
+
+/// A question of a currency or a class that an accepted sheet lacks.
+fn lacking(question: &Question, tables: &Tables, seen: &mut Seen) {
+    let currency = tables.currencies[..tables.currency_count].iter().any(|name| question.currency == name);
+    let class = tables.classes[..tables.class_count].iter().any(|class| class.number as u64 == question.class);
+    seen.note("a missing currency with a class of the sheet", !currency && class);
+    seen.note("a missing class with a currency of the sheet", currency && !class);
+    seen.note("a missing currency and a missing class", !currency && !class && tables.security_count > 0);
+    seen.note("a question about a sheet without securities", tables.security_count == 0);
+    if class {
+        let name = &question.currency;
+        let known = |name: &[u8]| tables.currencies[..tables.currency_count].iter().any(|known| known == name);
+        let part = tables.currencies[..tables.currency_count].iter().any(|known| known[..2] == **name);
+        let letters = name.len() == 3 && name.iter().all(u8::is_ascii_uppercase);
+        seen.note("an empty currency", name.is_empty());
+        seen.note("a currency of the sheet without its last letter", part);
+        seen.note("a currency of the sheet with a byte behind it", name.len() == 4 && known(&name[..3]));
+        seen.note("a currency of the sheet with a byte before it", name.len() == 4 && known(&name[1..]));
+        seen.note("a currency of the sheet in small letters", !letters && known(&name.to_ascii_uppercase()));
+        seen.note("a currency of three other letters", letters);
+        seen.note("a currency of more than 200 bytes", name.len() > 200);
+    }
+    if currency {
+        let low = tables.classes[..tables.class_count].iter().any(|class| class.number as u64 == question.class % 64);
+        seen.note("class 0", question.class == 0);
+        seen.note("class 41", question.class == 41);
+        seen.note("a class of 1..40 that no C row has", (1..=40).contains(&question.class));
+        seen.note("the highest class of 64 bits", question.class == u64::MAX);
+        seen.note("a class with the lowest bits of one of the sheet", question.class > 41 && low);
+    }
+}
+
+/// A question that no sheet could have answered, where the sheet is refused already.
+fn wrong_question(case: &Case, refusal: u64, seen: &mut Seen) {
+    let Question { currency, class } = &case.question;
+    let wrong = currency.len() != 3 || !(1..=40).contains(class);
+    seen.note("a wrong question and a short buffer", wrong && refusal == 1);
+    seen.note("a wrong question about a refused sheet", wrong && refusal > 2);
+    seen.note("a question that looks right about a refused sheet", !wrong && refusal > 2);
 }
 
 /// The day that a field names.

@@ -1,49 +1,38 @@
 -- `kit::brm_margin` meets its contract: each way out gives the number and the buffer of the paper's kit.
-use Prim.Native.Nat.{ℕ, _+_, _≤_}
-use native.Mathlib.Nat.{zero-add}
+use Prim.Native.Nat.{_≤_}
 use native.Mathlib.Omega.{arith}
-use mathlib.Core.List.{_++_}
-use mathlib.Core.Path.{_≡_, ap, ap₂, _∙_, subst⁻¹}
+use mathlib.Core.Path.{_≡_, sym, ap, ap₂, _∙_, subst, subst⁻¹}
 use borrow.Author.Needs.{needs}
-use lib.ListN.{length, drop}
+use lib.ListN.{length}
 use Rattle.paper.specs.Units.{Text}
+use Rattle.paper.specs.Rows as paper
 use Rattle.paper.specs.Refusals.{refused, accepted}
 use Rattle.paper.specs.Report.{reportOf}
+use Rattle.paper.specs.Answer.{Answer}
 use Rattle.paper.proofs.Lengths.{report-fits}
+use Rattle.paper.proofs.Demands.{gives-answer}
 use Rattle.tables.specs.Held.{heldTables}
 use Rattle.tables.specs.declared.Tables.{Tables}
 use Rattle.margin.specs.Figures.{TablesRanged, figuresOf}
 use Rattle.margin.specs.Held.{heldFigures}
 use Rattle.margin.proofs.Paper.{figures-held, tables-ranged}
-use Rattle.lines.specs.Written.{written}
+use Rattle.lines.specs.Written.{Wrote}
 use Rattle.report.specs.Texts.{Writable, reportText}
 use Rattle.report.proofs.Paper.{text-held, writable-held}
-use Rattle.kit.proofs.Answers.{answered, short-buffer, long-sheet, by-lines, small, Accepted, is-accepted}
+use Rattle.kit.proofs.Answers.{small, is-refused, Accepted, is-accepted, hands-back}
 use Rattle.kit.proofs.brm_margin.Statement.{statement}
 use Rattle.kit.proofs.brm_margin.Tie as tie
 
-returns : tie.Need-returns
-returns c =
-    let a = c .before .before .before .args in
-    answered (a .sheet .now) (a .report .now) (refused 1 0) (short-buffer (a .sheet .now) (a .report .now) (c .if1 .taken))
-
-returns-2 : tie.Need-returns-2
-returns-2 c =
-    let a = c .before .before .before .before .args in
-    answered (a .sheet .now) (a .report .now) (refused 2 0) (long-sheet (a .sheet .now) (a .report .now) (c .before .if1 .left) (c .if2 .taken))
-
--- The sheet and the buffer, from where the sheet was read
-abbrev sheet : tie.After-read-sheet → Text
-sheet c = c .before .before .before .before .before .args .sheet .now
+-- Where the function began, from where the sheet was read, and the buffer then
+abbrev begin : tie.After-read-sheet → tie.Start
+begin c = c .before .before .before
 
 abbrev buffer : tie.After-read-sheet → Text
-buffer c = c .before .before .before .before .before .args .report .now
+buffer c = begin c .args .report .now
 
 -- The number and the line of a refusal are small
 refusal-small : (c : tie.After-read-sheet) → (c .read-sheet .result .refusal ≤ 12) × (c .read-sheet .result .line ≤ 65_535)
-refusal-small c =
-    let (number, line) = small (sheet c) (buffer c) (c .before .before .if1 .left) (c .before .if2 .left) (c .read-sheet .result) (c .read-sheet .ensures) in
-    (number, omega arith)
+refusal-small c = small (length (buffer c)) (begin c .args .sheet .now) (c .read-sheet .result) (c .read-sheet .ensures)
 
 mul-result : tie.Need-mul-result
 mul-result c = record { fits = omega (arith, refusal-small (c .before .before .before) .0) }
@@ -51,18 +40,22 @@ mul-result c = record { fits = omega (arith, refusal-small (c .before .before .b
 add-result : tie.Need-add-result
 add-result c = let s = refusal-small (c .before .before .before .before) in record { fits = omega (arith, s .0, s .1) }
 
-returns-3 : tie.Need-returns-3
-returns-3 c =
+-- What comes of the tables: their report
+abbrev next : paper.Tables → Answer
+next t = accepted (reportOf t)
+
+returns : tie.Need-returns
+returns c =
     let r = c .before .before .before .before in
-    answered (sheet r) (buffer r) (refused (r .read-sheet .result .refusal) (r .read-sheet .result .line))
-    (by-lines (sheet r) (buffer r) (r .before .before .if1 .left) (r .before .if2 .left) (r .read-sheet .result) (r .read-sheet .ensures) (c .before .before .if3 .taken))
+    let read = r .read-sheet .result in
+    sym (gives-answer (begin r .args .sheet .now) (buffer r) (refused (read .refusal) (read .line))
+    (is-refused (length (buffer r)) (begin r .args .sheet .now) read (r .read-sheet .ensures) (c .before .before .if1 .taken) next))
 
 -- The sheet is accepted
-accepted-is : (c : tie.Else3) → let r = c .before .before in
-    Accepted (sheet r) (buffer r) (r .before .before .if1 .left) (r .before .if2 .left) (r .read-sheet .result) (r .read-sheet .ensures)
+accepted-is : (c : tie.Else1) → let r = c .before .before in Accepted (length (buffer r)) (begin r .args .sheet .now) (r .read-sheet .result) (r .read-sheet .ensures)
 accepted-is c =
     let r = c .before .before in
-    is-accepted (sheet r) (buffer r) (r .before .before .if1 .left) (r .before .if2 .left) (r .read-sheet .result) (r .read-sheet .ensures) (c .if3 .left)
+    is-accepted (length (buffer r)) (begin r .args .sheet .now) (r .read-sheet .result) (r .read-sheet .ensures) (c .if1 .left)
 
 figures-of-requires : tie.Need-figures-of-requires
 figures-of-requires c κs =
@@ -92,34 +85,27 @@ write-requires : tie.Need-write-requires
 write-requires c κs =
     let f = c .before in
     let a = accepted-is (f .before .before) in
-    let r = f .before .before .before .before in
-    let fits = report-fits (a .paper) (a .admitted) in
-    (writable f, omega (arith, ap length (text-is f), fits, r .before .before .if1 .left))
+    (writable f, omega (arith, ap length (text-is f), report-fits (a .paper) (a .admitted), a .roomy))
 
-returns-4 : tie.Need-returns-4
-returns-4 c =
+returns-2 : tie.Need-returns-2
+returns-2 c =
     let w = c .before .before in
     let f = w .before .before in
     let a = accepted-is (f .before .before) in
     let r = f .before .before .before .before in
-    let b = buffer r in
-    let report = reportOf (a .paper) in
-    ap₂ (λ (n : ℕ) (after : Text). (n, after)) (w .write .ensures .0) (w .write .ensures .1)
-    ∙ ap (λ (t : Text). (0 + length t, written t 0 b)) (text-is f)
-    ∙ ap (λ (n : ℕ). (n, report ++ drop n b)) (zero-add (length report))
-    ∙ answered (sheet r) b (accepted report) (a .answers)
+    hands-back (reportOf (a .paper)) (buffer r)
+    (subst (λ (t : Text). Wrote t 0 (buffer r) (w .write .result) (w .write .last .0)) (text-is f) (w .write .ensures))
+    ∙ sym (gives-answer (begin r .args .sheet .now) (buffer r) (accepted (reportOf (a .paper))) (a .answers next))
 
 pub brm-margin-spec : {M : Type 1} → statement M
 brm-margin-spec =
     tie.close
     (tie.spec
-    returns
-    returns-2
     (λ c κs. search needs)
     mul-result
     add-result
-    returns-3
+    returns
     figures-of-requires
     write-requires
     (λ c. search needs)
-    returns-4)
+    returns-2)

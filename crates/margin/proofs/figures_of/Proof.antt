@@ -6,7 +6,7 @@ use mathlib.Core.List.{List}
 use mathlib.Core.Path.{_≡_, refl, ap, ap₂, _∙_}
 use borrow.Author.Needs.{needs}
 use lib.IntN.{pos, natAbs}
-use lib.ListN.{length, getD, take, replicate, length-take}
+use lib.ListN.{getD, replicate}
 use mir.Syntax.{w64}
 use mir.Val.{toZ, ofZ}
 use Rattle.paper.specs.Units.{SignedCents, Whole}
@@ -23,7 +23,7 @@ use Rattle.margin.specs.declared.Sums.{Sums}
 use Rattle.margin.specs.declared.Openings.{Openings}
 use Rattle.margin.specs.declared.Book.{Book}
 use Rattle.margin.specs.declared.Currency.{Currency}
-use Rattle.margin.proofs.Values.{worths-most, totals-most}
+use Rattle.margin.proofs.Values.{table-worths-most, table-totals-most}
 use Rattle.margin.proofs.Positions.{book-most}
 use Rattle.margin.proofs.Forwards.{rank-stored}
 use Rattle.margin.proofs.figures_of.Statement.{statement}
@@ -61,14 +61,11 @@ abbrev opened : tie.At-loop Inv-loop μ-loop → tie.After-openings-of Inv-loop 
 opened l = l .before .before .before .before
 
 -- The sums of the trades are within the table of bounds, in size: cents
-few : (c : tie.Start Inv-loop μ-loop) → length (take (c .args .tables .trades .count) (c .args .tables .trades .rows)) ≤ 500
-few c = omega (arith, length-take (c .args .tables .trades .count) (c .args .tables .trades .rows), c .pre .few-trades)
-
 worths-small : (c : tie.After-sums-of Inv-loop μ-loop) (k : ℕ) → natAbs (getD (c .sums-of .result .worths) k (pos 0)) ≤ mostNetCents
-worths-small c k = rw (c .sums-of .ensures) (worths-most (start c .args .tables .securities .rows) (few (start c)) (start c .pre .trades) k)
+worths-small c k = rw (c .sums-of .ensures) (table-worths-most (start c .args .tables) (start c .pre) k)
 
 totals-small : (c : tie.After-sums-of Inv-loop μ-loop) (k : ℕ) → natAbs (getD (c .sums-of .result .totals) k (pos 0)) ≤ mostMarkSum
-totals-small c k = rw (c .sums-of .ensures) (totals-most (start c .args .tables .securities .rows) (few (start c)) (start c .pre .trades) k)
+totals-small c k = rw (c .sums-of .ensures) (table-totals-most (start c .args .tables) (start c .pre) k)
 
 -- The total of a currency that the loop reads is the one in the table
 total-is : (c : tie.After-sums-of Inv-loop μ-loop) (k : ℕ) → let z = getD (c .sums-of .result .totals) k (pos 0) in toZ w64 (ofZ w64 z) ≡ z

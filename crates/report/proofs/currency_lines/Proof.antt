@@ -10,9 +10,9 @@ use Rattle.paper.specs.Units.{Text}
 use Rattle.whole.proofs.Signs.{read-back}
 use Rattle.margin.specs.declared.Currency.{Currency}
 use Rattle.lines.specs.Written.{Wrote, moneyText, totalLine}
-use Rattle.lines.proofs.Written.{Parts, parts, front, room, joined}
+use Rattle.lines.proofs.Written.{none-written, Parts, parts, front, room, joined}
 use Rattle.report.specs.Texts.{moneyAt, noFigures, positionText, linesOf, currencyText}
-use Rattle.report.proofs.Loops.{as-long, none-written, texts, turn-room, turn}
+use Rattle.report.proofs.Loops.{as-long, texts, turn-room, turn}
 use Rattle.report.proofs.currency_lines.Statement.{statement}
 use Rattle.report.proofs.currency_lines.Tie as tie
 

@@ -15,8 +15,9 @@ use Rattle.tables.specs.declared.Security.{Security}
 use Rattle.tables.specs.declared.Trade.{Trade}
 use Rattle.tables.specs.declared.Trades.{Trades}
 use Rattle.lines.specs.Written.{Wrote}
+use Rattle.lines.proofs.Written.{none-written}
 use Rattle.report.specs.Texts.{marked, markText}
-use Rattle.report.proofs.Loops.{as-long, none-written, texts, turn-room, turn}
+use Rattle.report.proofs.Loops.{as-long, texts, turn-room, turn}
 use Rattle.report.proofs.mark_lines.Statement.{statement}
 use Rattle.report.proofs.mark_lines.Tie as tie
 

@@ -9,8 +9,9 @@ use Rattle.paper.specs.Units.{Text, Whole}
 use Rattle.tables.specs.Held.{noClass}
 use Rattle.tables.specs.declared.Classes.{Classes}
 use Rattle.lines.specs.Written.{Wrote, moneyText, positionLine}
+use Rattle.lines.proofs.Written.{none-written}
 use Rattle.report.specs.Texts.{positionText}
-use Rattle.report.proofs.Loops.{as-long, none-written, texts, turn-room, turn}
+use Rattle.report.proofs.Loops.{as-long, texts, turn-room, turn}
 use Rattle.report.proofs.position_lines.Statement.{statement}
 use Rattle.report.proofs.position_lines.Tie as tie
 

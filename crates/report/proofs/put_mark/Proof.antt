@@ -5,7 +5,7 @@ use mathlib.Core.Path.{_≡_}
 use borrow.Author.Tests.{not-true, not-false}
 use mir.Syntax.{w64}
 use mir.ValLaws.{toZ-ofZ}
-use Rattle.report.proofs.Loops.{none-written}
+use Rattle.lines.proofs.Written.{none-written}
 use Rattle.report.proofs.put_mark.Statement.{statement}
 use Rattle.report.proofs.put_mark.Tie as tie
 

@@ -10,7 +10,7 @@ use Rattle.tables.specs.Held.{noSecurity}
 use Rattle.securities.specs.Ranks.{rankedSecurity, withRank}
 use Rattle.tables.specs.declared.Standing.{Standing}
 use Rattle.tables.proofs.Over.{over-more}
-use Rattle.securities.proofs.Ranks.{rank-most}
+use Rattle.tables.proofs.Ranks.{rank-most}
 use Rattle.securities.proofs.with_ranks.Statement.{statement}
 use Rattle.securities.proofs.with_ranks.Tie as tie
 

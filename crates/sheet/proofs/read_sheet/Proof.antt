@@ -1,82 +1,52 @@
--- `sheet::read_sheet` meets its contract: the header, then the D row, then the sections.
-use Prim.Native.Nat.{ℕ}
-use native.Mathlib.Omega.{arith}
+-- `sheet::read_sheet` meets its contract: the room of the report buffer, then the sheet's size, then its lines.
+use Prim.Native.Nat.{_≤_, _<_}
 use mathlib.Core.Path.{_≡_, sym, ap, _∙_}
 use borrow.Author.Needs.{needs}
+use borrow.Author.Tests.{lt-leb, le-leb}
+use lib.ListN.{length}
+use Rattle.paper.specs.Units.{Text, Room}
 use Rattle.paper.specs.Refusals.{refused}
-use Rattle.head.specs.Read.{headerNumber, dateNumber}
+use Rattle.paper.specs.Sheet.{readSheet}
+use Rattle.paper.specs.Answer.{tablesOf}
 use Rattle.sheet.specs.Whole.{heldSheet}
-use Rattle.sheet.proofs.Starting.{header-right, header-wrong, header-ended, DateThere, date-read, date-number-read, read-no-header, read-behind}
 use Rattle.sheet.proofs.read_sheet.Statement.{statement}
 use Rattle.sheet.proofs.read_sheet.Tie as tie
 
+module _ (room : Room) (sheet : Text) where
+  -- Refused 1: the buffer has under 32,768 bytes
+  short-buffer : room < 32_768 → tablesOf room sheet ≡ refused 1 0
+  short-buffer h = rw (lt-leb 32_768 room h)
+
+  -- Refused 2: the sheet has over 65,536 bytes
+  long-sheet : 32_768 ≤ room → 65_536 < length sheet → tablesOf room sheet ≡ refused 2 0
+  long-sheet h k = rw (le-leb 32_768 room h, lt-leb (length sheet) 65_536 k)
+
+  -- Else its lines decide
+  by-lines : 32_768 ≤ room → length sheet ≤ 65_536 → tablesOf room sheet ≡ readSheet sheet
+  by-lines h k = rw (le-leb 32_768 room h, le-leb (length sheet) 65_536 k)
+
 returns : tie.Need-returns
 returns c =
-    let h = c .before .before in
-    let s = h .before .before .args .s .now in
-    c .refused .ensures ∙ ap (λ (n : ℕ). heldSheet (refused n 1)) (h .header-number .ensures)
-    ∙ sym (ap heldSheet (read-no-header s (headerNumber s) (header-wrong s (λ e. c .before .if1 .taken (h .header-number .ensures ∙ e)))))
-
--- The header is right
-header-is : (c : tie.Else1) → headerNumber (c .before .before .before .args .s .now) ≡ 0
-header-is c = sym (c .before .header-number .ensures) ∙ c .if1 .left
-
-date-row-requires : tie.Need-date-row-requires
-date-row-requires c κs =
-    let right = c .before .before in
-    (header-ended (right .before .before .before .args .s .now) (header-is right), c .before .new-years .ensures)
-
-enum-told : tie.Need-enum-told
-enum-told c = search needs
+    let a = c .before .before .before .args in
+    c .refused .ensures ∙ sym (ap heldSheet (short-buffer (a .room) (a .s .now) (c .before .if1 .taken)))
 
 returns-2 : tie.Need-returns-2
 returns-2 c =
-    let e = c .before .before in
-    let r = e .before .before in
-    let right = r .before .before .before in
-    let s = right .before .before .before .args .s .now in
-    c .refused2 .ensures ∙ ap (λ (n : ℕ). heldSheet (refused n 2)) (c .before .date-number .ensures ∙ ap dateNumber (e .enum-told .given .1))
-    ∙ sym (ap heldSheet (read-behind s _ (header-right s (header-is right)) _ (date-number-read s _ (sym (r .date-row .ensures) ∙ e .enum-told .given .1))))
-
--- The D row as it was read
-date-is : (c : tie.After-known-told)
-    → DateThere (c .before .before .before .before .before .before .before .before .before .args .s .now) (c .before .read .given .0 .0) (c .before .read .given .0 .1 .0)
-date-is c =
-    let r = c .before .before .before in
-    let right = r .before .before .before in
-    let s = right .before .before .before .args .s .now in
-    date-read s (header-ended s (header-is right)) _ _ (sym (r .date-row .ensures) ∙ c .before .read .given .1)
-
-tables-from-requires : tie.Need-tables-from-requires
-tables-from-requires c κs =
-    let k = c .before .before in
-    let years = k .before .before .before .before .before in
-    let d = date-is k in
-    (years .before .before .before .before .pre, omega (arith, d .within, c .ended .ensures), c .ended .ensures, years .new-years .ensures, d .below)
+    let a = c .before .before .before .before .args in
+    c .refused2 .ensures ∙ sym (ap heldSheet (long-sheet (a .room) (a .s .now) (c .before .before .if1 .left) (c .before .if2 .taken)))
 
 returns-3 : tie.Need-returns-3
 returns-3 c =
-    let k = c .before .before .before in
-    let right = k .before .before .before .before .before .before in
-    let s = right .before .before .before .args .s .now in
-    let d = date-is k in
-    c .tables-from .ensures (d .date) (d .its-day)
-    ∙ sym (ap heldSheet (read-behind s _ (header-right s (header-is right)) _ (d .read)))
+    let a = c .before .before .before .before .args in
+    c .read-lines .ensures ∙ sym (ap heldSheet (by-lines (a .room) (a .s .now) (c .before .before .if1 .left) (c .before .if2 .left)))
 
 pub read-sheet-spec : {M : Type 1} → statement M
 read-sheet-spec =
     tie.close
     (tie.spec
     (λ c κs. search needs)
-    (λ c κs. search needs)
     returns
-    (λ c κs. search needs)
-    date-row-requires
-    (λ c. search needs)
-    enum-told
-    (λ c κs. search needs)
     (λ c κs. search needs)
     returns-2
     (λ c κs. search needs)
-    tables-from-requires
     returns-3)

@@ -1,62 +1,53 @@
--- `shown::show` meets its contract: the number tells a report from a refusal.
-use Prim.Native.Nat.{_/_, _%_, _≤_}
+-- `shown::show` meets its contract: what the number of the report tells.
+use Prim.Native.Nat.{ℕ, _≤_}
 use native.Mathlib.Omega.{arith}
-use mathlib.Core.Path.{ap}
+use mathlib.Core.Path.{_≡_, refl, _∙_}
 use borrow.Author.Needs.{needs}
 use lib.ListN.{length}
 use Rattle.paper.specs.Units.{Text}
-use Rattle.paper.specs.Answer.{answer}
-use Rattle.lines.specs.Written.{Wrote}
+use Rattle.paper.specs.Report.{reportOf}
+use Rattle.paper.specs.Answer.{Answer, answer, accepted, handedBack}
+use Rattle.paper.proofs.Lengths.{report-fits}
+use Rattle.paper.proofs.Demands.{gives-answer, goes-on}
+use Rattle.paper.specs.Demands.{IsAnswer}
 use Rattle.shown.specs.Shown.{shownText}
-use Rattle.shown.proofs.Answers.{refusal-short, shown-fits, counted, report-shown, refusal-shown}
+use Rattle.shown.proofs.Answers.{shown-fits, counted, number-low, left-long, told-shown}
 use Rattle.shown.proofs.show.Statement.{statement}
 use Rattle.shown.proofs.show.Tie as tie
 
--- The text fits the lent bytes
-abbrev text : tie.Start → Text
-text s = shownText (answer (length (s .args .out .now)) (s .args .sheet .now))
+-- The kit's answer
+abbrev answered : tie.Start → Answer
+answered s = answer (length (s .args .out .now)) (s .args .sheet .now)
 
-fits : (s : tie.Start) → length (text s) ≤ length (s .args .out .now)
-fits s = omega (arith, shown-fits (length (s .args .out .now)) (s .args .sheet .now), s .pre)
+is-answered : (s : tie.Start) → IsAnswer 13 (answered s)
+is-answered s = goes-on 13 (omega arith) (length (s .args .out .now)) (s .args .sheet .now) (λ t. accepted (reportOf t)) report-fits
+
+-- Its text fits the lent bytes
+fits : (s : tie.Start) → length (shownText (answered s)) ≤ length (s .args .out .now)
+fits s = omega (arith, shown-fits (answered s) (is-answered s), s .pre)
+
+-- Where the function began, from where the kit was called
+abbrev begin : tie.After-brm-margin → tie.Start
+begin k = k .before .before .before .before
+
+-- The number and the bytes are the answer's
+given : (k : tie.After-brm-margin) → _≡_ {A = ℕ × Text} (k .brm-margin .result, k .brm-margin .last .1 .0) (handedBack (answered (begin k)) (begin k .args .out .now))
+given k = k .brm-margin .ensures ∙ gives-answer (begin k .args .sheet .now) (begin k .args .out .now) (answered (begin k)) refl
+
+tell-requires : tie.Need-tell-requires
+tell-requires c κs =
+    let k = c .before .before .before in
+    let s = begin k in
+    let a = answered s in
+    (omega (arith, s .pre, left-long a (is-answered s) (s .args .out .now) (given k) (fits s)), number-low a (is-answered s) (s .args .out .now) (given k))
 
 returns : tie.Need-returns
 returns c =
-    let k = c .before .before .before in
-    let s = k .before .before .before .before in
-    let w : Wrote (text s) 0 (s .args .out .now) (k .brm-margin .result) (k .brm-margin .last .1 .0) =
-    report-shown (s .args .sheet .now) (s .args .out .now) (k .brm-margin .result) (k .brm-margin .last .1 .0) (k .brm-margin .ensures) (c .if1 .taken)
-    in
-    (w, counted (text s) (s .args .out .now) (k .brm-margin .result) (k .brm-margin .last .1 .0) (fits s) w)
-
-refusal-line-requires : tie.Need-refusal-line-requires
-refusal-line-requires c κs =
-    let k = c .before .before .before .before in
-    let s = k .before .before .before .before in
-    let (is, same, low) =
-    refusal-shown (s .args .sheet .now) (s .args .out .now) (k .brm-margin .result) (k .brm-margin .last .1 .0) (k .brm-margin .ensures) (c .before .if1 .left)
-    in
-    omega (arith, refusal-short (k .brm-margin .result / 65_536) (k .brm-margin .result % 65_536) low (omega arith), ap length same, s .pre)
-
-returns-2 : tie.Need-returns-2
-returns-2 c =
-    let r = c .before .before in
-    let k = r .before .before .before .before .before in
-    let s = k .before .before .before .before in
-    let (is, same, low) =
-    refusal-shown (s .args .sheet .now) (s .args .out .now) (k .brm-margin .result) (k .brm-margin .last .1 .0) (k .brm-margin .ensures) (r .before .before .if1 .left)
-    in
-    let w : Wrote (text s) 0 (s .args .out .now) (r .refusal-line .result) (r .refusal-line .last .0) =
-    rw (is, ← same) (r .refusal-line .ensures)
-    in
-    (w, counted (text s) (s .args .out .now) (r .refusal-line .result) (r .refusal-line .last .0) (fits s) w)
+    let t = c .before .before in
+    let k = t .before .before .before .before in
+    let s = begin k in
+    let w = told-shown (answered s) (is-answered s) (s .args .out .now) (given k) (t .tell .ensures) in
+    (w, counted (shownText (answered s)) (s .args .out .now) _ _ (fits s) w)
 
 pub show-spec : {M : Type 1} → statement M
-show-spec =
-    tie.close
-    (tie.spec
-    (λ c κs. search needs)
-    (λ c. search needs)
-    returns
-    refusal-line-requires
-    (λ c. search needs)
-    returns-2)
+show-spec = tie.close (tie.spec (λ c κs. search needs) tell-requires (λ c. search needs) returns)

@@ -1,4 +1,4 @@
-//! Holds the kit against the plain implementation on as many generated sheets as asked for:
+//! Holds the kit against the plain implementation on as many generated sheets and questions as asked for:
 //! `cargo run --release --bin agree -- SHEETS [SEED]`. A case that differs is printed and ends the run.
 
 use gronnhyl_host::asked::Asked;
@@ -17,9 +17,9 @@ fn main() -> ExitCode {
     for number in 0..sheets {
         let case = case(seed, number);
         match together.run(&case) {
-            Ok(answer) => tally.add(answer),
+            Ok(answers) => tally.add(answers),
             Err(wrong) => {
-                println!("seed {seed}, case {number}, room {}: {wrong}", case.room);
+                println!("seed {seed}, case {number}, room {}, {:?}: {wrong}", case.room, case.question);
                 let _ = std::io::stdout().write_all(&case.sheet);
                 return ExitCode::FAILURE;
             }

@@ -1,12 +1,13 @@
-//! The plain implementation's answers to generated sheets, for a host that is not written in Rust to be held to:
-//! `cargo run --release --bin answers -- SHEETS [SEED] >FILE`.
+//! The plain implementation's answers to generated sheets and to a question about each, for a host that is not written
+//! in Rust to be held to: `cargo run --release --bin answers -- SHEETS [SEED] >FILE`.
 //!
-//! The file has the number of sheets, and for each sheet its length, the room lent for its report and the answer, all
-//! numbers of 8 bytes with the lowest first; then the sheet's bytes, and the report's where there is one.
+//! The file has the number of sheets. Then, for each, six numbers: the sheet's length, the room lent for an answer, the
+//! answer to the sheet, the length of the question's currency, its class, the answer to it. Then bytes: the sheet, its
+//! report where there is one, the currency, the explanation where there is one. Numbers have 8 bytes, the lowest first.
 
 use gronnhyl_host::asked::Asked;
 use gronnhyl_host::plain;
-use gronnhyl_host::sheets::case;
+use gronnhyl_host::sheets::{case, Question};
 use std::io::{stdout, BufWriter, Result, Write};
 use std::process::ExitCode;
 
@@ -28,14 +29,25 @@ fn write(asked: &Asked, to: &mut impl Write) -> Result<()> {
     to.write_all(&asked.sheets.to_le_bytes())?;
     for number in 0..asked.sheets {
         let case = case(asked.seed, number);
-        let mut report = vec![0; case.room];
-        let answer = plain::brm_margin(&case.sheet, &mut report);
-        for count in [case.sheet.len() as u64, case.room as u64, answer] {
-            to.write_all(&count.to_le_bytes())?;
+        let Question { currency, class } = &case.question;
+        let (report, text) = answer(case.room, |buffer| plain::brm_margin(&case.sheet, buffer));
+        let (explanation, reasons) =
+            answer(case.room, |buffer| plain::brm_explain(&case.sheet, currency, *class, buffer));
+        let numbers = [case.sheet.len() as u64, case.room as u64, report, currency.len() as u64, *class, explanation];
+        for number in numbers {
+            to.write_all(&number.to_le_bytes())?;
         }
-        to.write_all(&case.sheet)?;
-        let length = if answer < 65_536 { answer as usize } else { 0 }; // bytes of the report
-        to.write_all(&report[..length])?;
+        for bytes in [&case.sheet, &text, currency, &reasons] {
+            to.write_all(bytes)?;
+        }
     }
     to.flush()
+}
+
+/// The answer of an entry that is lent a buffer of that room, in bytes, and the text that it wrote.
+fn answer(room: usize, entry: impl FnOnce(&mut [u8]) -> u64) -> (u64, Vec<u8>) {
+    let mut buffer = vec![0; room];
+    let answer = entry(&mut buffer);
+    buffer.truncate(if answer < 65_536 { answer as usize } else { 0 });
+    (answer, buffer)
 }

@@ -4,8 +4,11 @@
 //! by each without. So every call meets a sheet that was not just read, as in a room that works through many, and a
 //! busy moment of the computer falls on both. Each figure is a median over the rounds. Only the call is timed, never
 //! the clearing.
+//!
+//! With them, the time of an explanation over that of the report of the same sheet, not cleared.
 
 use gronnhyl_host::plain::{self, LEAST_ROOM};
+use gronnhyl_host::sheets::Question;
 use gronnhyl_host::{kit, processor, sheets};
 use std::hint::black_box;
 use std::time::Instant;
@@ -15,15 +18,19 @@ const SHEETS: u64 = 16;
 const ROUNDS: usize = 600;
 const WARM_UP: usize = 20; // rounds
 const ENTRIES: [Entry; 2] = [kit::brm_margin, plain::brm_margin];
+const EXPLAINERS: [Explainer; 2] = [kit::brm_explain, plain::brm_explain];
 
 type Entry = fn(&[u8], &mut [u8]) -> u64;
+type Explainer = fn(&[u8], &[u8], u64, &mut [u8]) -> u64;
 
-/// One sheet and the times taken on it, in microseconds, one for each round.
+/// One sheet with a question about it, and the times taken on it, in microseconds, one for each round.
 struct Course {
     sheet: Vec<u8>,
+    question: Question,
     cleared: [Vec<f64>; 2],     // kit, plain
     not_cleared: [Vec<f64>; 2], // kit, plain
     steps: [Vec<f64>; 3],       // plain: reading, margining, report
+    explained: [Vec<f64>; 2],   // kit, plain
 }
 
 /// The microseconds that some work takes.
@@ -39,21 +46,36 @@ fn median(times: &[f64]) -> f64 {
     times[times.len() / 2]
 }
 
+/// The length of the text, in bytes, once both entries have given the same one.
+fn same(entries: [impl Fn(&mut [u8]) -> u64; 2]) -> u64 {
+    let texts = entries.map(|entry| {
+        let mut report = vec![0; LEAST_ROOM];
+        (entry(&mut report), report)
+    });
+    assert!(texts[1].0 < 65_536, "a largest sheet is accepted");
+    assert!(texts[0] == texts[1], "the two do not agree");
+    texts[1].0
+}
+
 impl Course {
     fn new(number: u64) -> Self {
         let sheet = sheets::largest(SEED, number);
-        Course { sheet, cleared: Default::default(), not_cleared: Default::default(), steps: Default::default() }
+        let question = sheets::about_security(&sheet, 0).expect("a security with its class");
+        Course {
+            sheet,
+            question,
+            cleared: Default::default(),
+            not_cleared: Default::default(),
+            steps: Default::default(),
+            explained: Default::default(),
+        }
     }
 
-    /// The report's length, in bytes, once both have given the same report.
+    /// The report's length, in bytes, once both have given the same report and the same explanation.
     fn same_report(&self) -> u64 {
-        let reports = ENTRIES.map(|entry| {
-            let mut report = vec![0; LEAST_ROOM];
-            (entry(&self.sheet, &mut report), report)
-        });
-        assert!(reports[1].0 < 65_536, "a largest sheet is accepted");
-        assert!(reports[0] == reports[1], "the two do not agree");
-        reports[1].0
+        let Question { currency, class } = &self.question;
+        same(EXPLAINERS.map(|entry| move |report: &mut [u8]| entry(&self.sheet, currency, *class, report)));
+        same(ENTRIES.map(|entry| move |report: &mut [u8]| entry(&self.sheet, report)))
     }
 
     fn call(&mut self, which: usize, clear: bool, report: &mut [u8]) {
@@ -75,9 +97,15 @@ impl Course {
         self.steps[2].push(timed(|| plain::write(&tables, black_box(&figures), black_box(report))));
     }
 
+    fn explain(&mut self, which: usize, report: &mut [u8]) {
+        let Question { currency, class } = &self.question;
+        let time = timed(|| EXPLAINERS[which](black_box(&self.sheet), currency, *class, black_box(report)));
+        self.explained[which].push(time);
+    }
+
     fn forget(&mut self) {
         let times = self.cleared.iter_mut().chain(&mut self.not_cleared).chain(&mut self.steps);
-        times.for_each(Vec::clear);
+        times.chain(&mut self.explained).for_each(Vec::clear);
     }
 }
 
@@ -96,22 +124,29 @@ fn main() {
             }
         }
         courses.iter_mut().for_each(|course| course.step(&mut report));
+        for turn in 0..2 {
+            let which = (turn + round) % 2;
+            courses.iter_mut().for_each(|course| course.explain(which, &mut report));
+        }
     }
 
     println!("microseconds a sheet, medians of {ROUNDS} rounds; the clearing is not in the times");
     println!("                  buffer cleared    not cleared");
     println!("   sheet  report     kit   plain     kit   plain");
-    let mut sums = [0.0; 7];
+    let mut sums = [0.0; 9];
     for (course, length) in courses.iter().zip(lengths) {
-        let times = course.cleared.iter().chain(&course.not_cleared).chain(&course.steps);
+        let times = course.cleared.iter().chain(&course.not_cleared).chain(&course.steps).chain(&course.explained);
         let of_sheet: Vec<f64> = times.map(|times| median(times)).collect();
         let [kit, plain, kit_not, plain_not] = [0, 1, 2, 3].map(|at| of_sheet[at]);
         println!("{:8} {length:7} {kit:7.1} {plain:7.1} {kit_not:7.1} {plain_not:7.1}", course.sheet.len());
         sums.iter_mut().zip(of_sheet).for_each(|(sum, time)| *sum += time);
     }
-    let [kit, plain, kit_not, plain_not, reading, margining, writing] = sums.map(|sum| sum / SHEETS as f64);
+    let means = sums.map(|sum| sum / SHEETS as f64);
+    let [kit, plain, kit_not, plain_not, reading, margining, writing, kit_why, plain_why] = means;
     println!("    mean         {kit:7.1} {plain:7.1} {kit_not:7.1} {plain_not:7.1}");
     println!("plain by steps: reading {reading:.1}, margining {margining:.1}, report {writing:.1}");
+    let (why, plain_over) = (kit_why / kit_not, plain_why / plain_not);
+    println!("explanation over report: kit {why:.2}, plain {plain_over:.2}; on {}", processor::name());
     let (ratio, ratio_not) = (kit / plain, kit_not / plain_not);
     println!("kit over plain: cleared {ratio:.2}, not cleared {ratio_not:.2}; on {}", processor::name());
 }

@@ -18,8 +18,8 @@ pub struct Figures {
     pub currencies: [CurrencyFigures; CURRENCIES], // in the tables' order
 }
 
-pub fn figures(tables: &Tables) -> Figures {
-    let mut figures = Figures {
+impl Figures {
+    pub const ZERO: Figures = Figures {
         marks: [0; TRADES],
         currencies: [CurrencyFigures {
             long: [0; CLASSES],
@@ -30,7 +30,22 @@ pub fn figures(tables: &Tables) -> Figures {
             total: 0,
         }; CURRENCIES],
     };
-    let mut nets = [0i64; SECURITIES]; // revaluated amounts by sign, cents
+}
+
+pub fn figures(tables: &Tables) -> Figures {
+    let mut figures = Figures::ZERO;
+    open(tables, &mut figures);
+    for currency in &mut figures.currencies[..tables.currency_count] {
+        offset_all(tables, currency, |_, _, _| {});
+        close(currency, tables);
+    }
+    figures
+}
+
+/// The marks and the opening positions. Gives the revaluated amounts by sign of each security, cents.
+#[inline(always)]
+pub fn open(tables: &Tables, figures: &mut Figures) -> [i64; SECURITIES] {
+    let mut nets = [0i64; SECURITIES]; // cents
     for (trade, mark) in tables.trades[..tables.trade_count].iter().zip(&mut figures.marks) {
         let security = &tables.securities[trade.security as usize];
         let revaluated = revaluated(trade.nominal, security.price, accrued(security, trade.accrual)) as i64;
@@ -46,13 +61,7 @@ pub fn figures(tables: &Tables) -> Figures {
         let side = if net < 0 { &mut currency.short } else { &mut currency.long };
         side[security.class as usize] += net.unsigned_abs();
     }
-    for currency in &mut figures.currencies[..tables.currency_count] {
-        for row in &tables.offsets[..tables.offset_count] {
-            offset(currency, row);
-        }
-        close(currency, tables);
-    }
-    figures
+    nets
 }
 
 /// The coupon run up to the accrual date, hundred-thousandths of a percent.
@@ -95,21 +104,39 @@ pub fn share(factor: u32, units: u64) -> u64 {
     (factor as u64 * units + 5_000) / 10_000
 }
 
-/// One row of the priority list, on what the rows before it left.
+/// What a row of the priority list took, whole units.
+pub struct Taken {
+    pub there: u64, // off the first class's long and the second's short
+    pub back: u64,  // off the second class's long and the first's short; 0 where both are one class
+}
+
+/// The rows of the priority list in their order. After each its place, itself and what it took are noted.
 #[inline(always)]
-fn offset(currency: &mut CurrencyFigures, row: &Offset) {
-    let (first, second) = (row.first as usize, row.second as usize);
-    take(row.factor, &mut currency.long[first], &mut currency.short[second]);
-    if first != second {
-        take(row.factor, &mut currency.long[second], &mut currency.short[first]);
+pub fn offset_all(tables: &Tables, currency: &mut CurrencyFigures, mut note: impl FnMut(usize, &Offset, Taken)) {
+    for (place, row) in tables.offsets[..tables.offset_count].iter().enumerate() {
+        note(place, row, offset(currency, row));
     }
 }
 
+/// One row of the priority list, on what the rows before it left.
 #[inline(always)]
-fn take(factor: u32, long: &mut u64, short: &mut u64) {
+fn offset(currency: &mut CurrencyFigures, row: &Offset) -> Taken {
+    let (first, second) = (row.first as usize, row.second as usize);
+    let there = take(row.factor, &mut currency.long[first], &mut currency.short[second]);
+    let mut back = 0; // whole units
+    if first != second {
+        back = take(row.factor, &mut currency.long[second], &mut currency.short[first]);
+    }
+    Taken { there, back }
+}
+
+/// Takes the factor's share of the smaller side off both, and gives it, whole units.
+#[inline(always)]
+fn take(factor: u32, long: &mut u64, short: &mut u64) -> u64 {
     let taken = share(factor, (*long).min(*short));
     *long -= taken;
     *short -= taken;
+    taken
 }
 
 /// The margins of the remaining positions, and the totals.

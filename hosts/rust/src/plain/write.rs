@@ -5,7 +5,7 @@ use super::tables::{Tables, CURRENCIES};
 
 /// Writes the report at the buffer's start and gives its length in bytes. The buffer has room for any report.
 pub fn write(tables: &Tables, figures: &Figures, report: &mut [u8]) -> usize {
-    let mut pen = Pen { report, at: 0 };
+    let mut pen = Pen::new(report);
     for (trade, &mark) in tables.trades[..tables.trade_count].iter().zip(&figures.marks) {
         let security = &tables.securities[trade.security as usize];
         let [a, b, c] = tables.currencies[security.currency as usize];
@@ -18,7 +18,7 @@ pub fn write(tables: &Tables, figures: &Figures, report: &mut [u8]) -> usize {
     for &place in &by_name(tables)[..tables.currency_count] {
         currency(&mut pen, tables, figures, place);
     }
-    pen.at
+    pen.length()
 }
 
 /// The K lines and the Z line of one currency.
@@ -63,20 +63,30 @@ const PAIRS: [[u8; 2]; 100] = {
     pairs
 };
 
-struct Pen<'a> {
+/// Writes into the lent buffer, from its start on.
+pub struct Pen<'a> {
     report: &'a mut [u8],
-    at: usize,
+    at: usize, // bytes
 }
 
-impl Pen<'_> {
+impl<'a> Pen<'a> {
+    pub fn new(report: &'a mut [u8]) -> Self {
+        Pen { report, at: 0 }
+    }
+
+    /// Of what is written, in bytes.
+    pub fn length(&self) -> usize {
+        self.at
+    }
+
     #[inline(always)]
-    fn text<const N: usize>(&mut self, text: &[u8; N]) {
+    pub fn text<const N: usize>(&mut self, text: &[u8; N]) {
         self.report[self.at..self.at + N].copy_from_slice(text);
         self.at += N;
     }
 
     #[inline(always)]
-    fn signed(&mut self, value: i64) {
+    pub fn signed(&mut self, value: i64) {
         if value < 0 {
             self.text(b"-");
         }
@@ -84,7 +94,7 @@ impl Pen<'_> {
     }
 
     #[inline(always)]
-    fn number(&mut self, mut value: u64) {
+    pub fn number(&mut self, mut value: u64) {
         let length = value.checked_ilog10().map_or(1, |power| power as usize + 1);
         let field = &mut self.report[self.at..self.at + length];
         self.at += length;

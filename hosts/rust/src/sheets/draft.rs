@@ -21,7 +21,7 @@ pub struct OffsetRow {
     pub factor: i64,
 }
 
-#[derive(Clone)]
+#[derive(Clone, PartialEq)]
 pub struct SecurityRow {
     pub code: [u8; 12],
     pub currency: [u8; 3],

@@ -24,8 +24,9 @@ impl Size {
     /// From tiny, most often, to the largest.
     pub fn any(chance: &mut Chance) -> Size {
         let most = match chance.below(100) {
-            0..=44 => [3, 3, 3, 5],
-            45..=84 => [8, 12, 10, 20],
+            0..=34 => [3, 3, 3, 5],
+            35..=49 => return Size::dense(chance),
+            50..=84 => [8, 12, 10, 20],
             85..=96 => [40, 60, 50, 120],
             97..=98 => [40, 200, 200, 500],
             _ => return Size::LARGEST,
@@ -33,6 +34,13 @@ impl Size {
         let mut up_to = |most: u64| if chance.one_in(12) { 0 } else { 1 + chance.below(most) as usize };
         let [classes, offsets, securities, trades] = most.map(&mut up_to);
         Size { classes, offsets, securities, trades, currencies: 1 + chance.below(8) as usize, long: false }
+    }
+
+    /// One currency and two classes with many nets, so that rows find something on all sides.
+    fn dense(chance: &mut Chance) -> Size {
+        let mut some = |least: i64, most: i64| chance.between(least, most) as usize;
+        let (offsets, securities, trades) = (some(1, 4), some(4, 12), some(8, 30));
+        Size { classes: 2, offsets, securities, trades, currencies: 1, long: false }
     }
 }
 
@@ -47,14 +55,36 @@ pub fn draft(chance: &mut Chance, size: &Size) -> Draft {
     // Trades on few securities give long chains of nets, trades on all of them many positions.
     let reach = if size.long { securities.len() } else { chance.place(securities.len().max(1)) + 1 };
     let only = *chance.pick(&[None, None, Some(true), Some(false)]);
-    let trades = (0..trades)
+    let mut trades: Vec<TradeRow> = (0..trades)
         .map(|_| {
             let security = &securities[chance.below(reach as u64) as usize];
             let repo = only.unwrap_or_else(|| chance.one_in(2));
             trade(chance, security, calculation, repo, size.long)
         })
         .collect();
+    if !size.long && chance.one_in(3) {
+        counter(chance, &securities, &mut trades);
+    }
     Draft { calculation, classes, offsets, securities, trades }
+}
+
+/// Each second trade becomes the one above it, the other way: on the same security, so that its net is zero, or on the
+/// next where that is a twin, so that their class has as much on both sides.
+fn counter(chance: &mut Chance, securities: &[SecurityRow], trades: &mut [TradeRow]) {
+    for pair in trades.chunks_exact_mut(2) {
+        let mut counter = TradeRow { seller: !pair[0].seller, ..pair[0].clone() };
+        let own = securities.iter().position(|row| row.code == counter.code);
+        let twin = own.and_then(|at| securities.get(at + 1).filter(|row| is_twin(&securities[at], row)));
+        if let Some(twin) = twin.filter(|_| !chance.one_in(4)) {
+            counter.code = twin.code;
+        }
+        pair[1] = counter;
+    }
+}
+
+/// Whether two securities are alike but for their codes.
+fn is_twin(one: &SecurityRow, other: &SecurityRow) -> bool {
+    SecurityRow { code: other.code, ..one.clone() } == *other
 }
 
 /// Closing days, leap days, year ends, the ends of the calendar, every day of the week.
@@ -222,7 +252,18 @@ fn securities(chance: &mut Chance, size: &Size, classes: &[ClassRow], calculatio
         let (price, coupon, payments) = worth(chance, size.long);
         SecurityRow { code, currency, kind: class.kind, duration, price, coupon, payments, previous, next }
     };
-    codes.into_iter().enumerate().map(row).collect()
+    let mut rows: Vec<SecurityRow> = codes.into_iter().enumerate().map(row).collect();
+    if !size.long && chance.one_in(4) {
+        twin(&mut rows);
+    }
+    rows
+}
+
+/// Each second security becomes the one above it, but for its code.
+fn twin(rows: &mut [SecurityRow]) {
+    for pair in rows.chunks_exact_mut(2) {
+        pair[1] = SecurityRow { code: pair[1].code, ..pair[0].clone() };
+    }
 }
 
 /// Price, yearly coupon, payments a year. A repo half way through its coupon period, or a coupon of half a unit a
