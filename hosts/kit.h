@@ -18,12 +18,18 @@
 extern "C" {
 #endif
 
-/* The report of a sheet. Accepted: the report's length in bytes, below 65,536, with the report at the start of the buffer
- * and every later byte as it was. Refused: 65,536 * refusal + line, and every byte of the buffer as it was.
+/* The quiet report of a sheet, for who reads it: without the K lines whose long, short and margin are all zero. Who counts on
+ * a line for every class, as a spreadsheet does, calls brm_margin_full.
+ * Accepted: the report's length in bytes, below 65,536, with the report at the start of the buffer and every later byte as it
+ * was. Refused: 65,536 * refusal + line, and every byte of the buffer as it was.
  * A report_len of 32,768 bytes is enough for any sheet; with less, every sheet is refused 1. */
 uint64_t brm_margin(const uint8_t *sheet, size_t sheet_len, uint8_t *report, size_t report_len);
 
-/* Why the margin of a class in a currency is what it is: P, R and B lines. The number and the buffer are as for the report,
+/* The full report of a sheet: in each currency a K line for every class, by rising class, those of zeros too. Number, buffer
+ * and room are as for the quiet report, and so is every refusal. */
+uint64_t brm_margin_full(const uint8_t *sheet, size_t sheet_len, uint8_t *report, size_t report_len);
+
+/* Why the margin of a class in a currency is what it is: P, R and B lines. The number and the buffer are as for a report,
  * and so is the room. The currency may be any bytes and the class any number: one that the sheet lacks is refused 13, line 0,
  * after all other refusals. */
 uint64_t brm_explain(const uint8_t *sheet, size_t sheet_len, const uint8_t *currency, size_t currency_len,

@@ -1,6 +1,7 @@
-/* A sheet to its report in C: forecast FILE, or forecast < FILE. With --why CURRENCY CLASS before FILE: why the margin of that
- * class in that currency is what it is. Text and exit status are those of ./forecast: 0 a report or an explanation, 1 a
- * refusal, 2 wrong words or a sheet that cannot be read. */
+/* A sheet to its report in C: forecast FILE, or forecast < FILE. It is the quiet one, without the K lines of zeros; with --full
+ * before FILE every class has its line. With --why CURRENCY CLASS before FILE: why the margin of that class in that currency is
+ * what it is. Text and exit status are those of ./forecast: 0 a report or an explanation, 1 a refusal, 2 wrong words or a sheet
+ * that cannot be read. */
 #include "../kit.h"
 #include <stdio.h>
 #include <string.h>
@@ -27,8 +28,9 @@ static uint64_t class_of(const char *word) {
 }
 
 int main(int words, char **word) {
+    int full = words > 1 && strcmp(word[1], "--full") == 0;
     int why = words > 1 && strcmp(word[1], "--why") == 0;
-    int place = why ? 4 : 1; /* of FILE among the words */
+    int place = why ? 4 : full ? 2 : 1; /* of FILE among the words */
     const char *name = words > place ? word[place] : NULL; /* NULL for standard input */
     FILE *file = stdin;
     size_t length;   /* bytes */
@@ -36,7 +38,7 @@ int main(int words, char **word) {
     int written;     /* bytes, or below 0 */
 
     if (words < place || words > place + 1)
-        return fail("one sheet at a time: forecast [--why CURRENCY CLASS] FILE, or the same < FILE", "");
+        return fail("one sheet at a time: forecast [--full | --why CURRENCY CLASS] FILE, or the same < FILE", "");
     if (name != NULL) file = fopen(name, "rb");
     if (file == NULL) return fail("cannot read ", name);
     length = fread(sheet, 1, sizeof sheet, file);
@@ -44,6 +46,8 @@ int main(int words, char **word) {
 
     if (why)
         answer = brm_explain(sheet, length, (const uint8_t *)word[2], strlen(word[2]), class_of(word[3]), report, sizeof report);
+    else if (full)
+        answer = brm_margin_full(sheet, length, report, sizeof report);
     else
         answer = brm_margin(sheet, length, report, sizeof report);
     if (answer < 65536)

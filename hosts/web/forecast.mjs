@@ -1,5 +1,6 @@
-// A sheet to its report on any computer with Node: node forecast.mjs FILE, or node forecast.mjs < FILE. With
-// --why CURRENCY CLASS before FILE: why the margin of that class in that currency is what it is.
+// A sheet to its report on any computer with Node: node forecast.mjs FILE, or node forecast.mjs < FILE. It is the quiet one,
+// without the K lines of zeros; with --full before FILE every class has its line. With --why CURRENCY CLASS before FILE: why the
+// margin of that class in that currency is what it is.
 // Text and exit status are those of ./forecast: 0 a report or an explanation, 1 a refusal, 2 wrong words or a sheet that
 // cannot be read.
 import { createReadStream, fstatSync, statSync } from 'node:fs';
@@ -12,14 +13,15 @@ const HIGHEST = 2n ** 64n - 1n; // the highest class that the kit can be asked f
 
 class Failure extends Error {}
 
-// What the words ask for: a question or none, and a file or none
+// What the words ask for: a report, full or not, or a question; and a file or none
 function asked(words) {
+    const full = words[0] === '--full';
     const question = words[0] === '--why' ? words.slice(1, 3) : undefined;
-    const files = question ? words.slice(3) : words;
+    const files = words.slice(question ? 3 : full ? 1 : 0);
     if (files.length > 1 || question?.length < 2) {
-        throw new Failure('one sheet at a time: node forecast.mjs [--why CURRENCY CLASS] FILE, or the same < FILE');
+        throw new Failure('one sheet at a time: node forecast.mjs [--full | --why CURRENCY CLASS] FILE, or the same < FILE');
     }
-    return { question, file: files[0] };
+    return { full, question, file: files[0] };
 }
 
 // A class is written as numbers are on the sheet. Any other word, and a number beyond 64 bits, is a class that no sheet has
@@ -62,9 +64,9 @@ async function kit() {
     }
 }
 
-function answer(kit, sheet, question) {
+function answer(kit, sheet, full, question) {
     try {
-        if (question === undefined) return kit.margin(sheet);
+        if (question === undefined) return full ? kit.marginFull(sheet) : kit.margin(sheet);
         const [currency, word] = question;
         return kit.explain(sheet, new TextEncoder().encode(currency), classOf(word));
     } catch {
@@ -73,8 +75,8 @@ function answer(kit, sheet, question) {
 }
 
 async function forecast(words) {
-    const { question, file } = asked(words);
-    const { report, number, line } = answer(await kit(), await read(file), question);
+    const { full, question, file } = asked(words);
+    const { report, number, line } = answer(await kit(), await read(file), full, question);
     // The status is set and not exited with, so that a pipe gets all of the text
     process.exitCode = report ? 0 : 1;
     process.stdout.write(report ?? `N;${number};${line}\n`);

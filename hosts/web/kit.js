@@ -17,14 +17,22 @@ class Kit {
     #stopped = false;
 
     constructor({ exports }) {
-        this.#entries = { margin: exports.brm_margin, explain: exports.brm_explain };
+        this.#entries = { quiet: exports.brm_margin, full: exports.brm_margin_full, explain: exports.brm_explain };
         this.memory = exports.memory;
         this.base = exports.__heap_base.value; // bytes, where the module's own part of the memory ends
     }
 
-    /** The answer to a sheet: { report }, its bytes, or { number, line } of the refusal. The room is in bytes. */
+    /**
+     * The answer to a sheet: { report }, the quiet report's bytes, without the K lines of zeros, or { number, line } of the
+     * refusal. The room is in bytes.
+     */
     margin(sheet, room = ROOM) {
         return this.#answer({ sheet }, room);
+    }
+
+    /** The same with the full report, which has a K line for every class. */
+    marginFull(sheet, room = ROOM) {
+        return this.#answer({ sheet, full: true }, room);
     }
 
     /**
@@ -38,6 +46,11 @@ class Kit {
     /** As a caller in C has it: the report buffer is lent with what stands in it, and the one number comes back. */
     call(sheet, report) {
         return this.#lend({ sheet }, report);
+    }
+
+    /** The same for the full report. */
+    callFull(sheet, report) {
+        return this.#lend({ sheet, full: true }, report);
     }
 
     /** The same for an explanation. */
@@ -69,8 +82,8 @@ class Kit {
         return answer;
     }
 
-    // Without a class it is the report that is asked for
-    #call({ sheet, currency = NONE, classNumber }, room, fill) {
+    // Without a class it is a report that is asked for, full or quiet
+    #call({ sheet, full = false, currency = NONE, classNumber }, room, fill) {
         bytes('sheet', sheet);
         if (this.#stopped) throw new Error('the kit was stopped in an earlier call: load it again');
         const at = this.places(sheet.length, room, currency.length);
@@ -81,9 +94,10 @@ class Kit {
         part(at.currency, currency.length).set(currency);
         fill(part(at.report, room));
         const lengths = [sheet.length, currency.length, room].map(BigInt);
+        const margin = full ? this.#entries.full : this.#entries.quiet;
         this.#stopped = true; // unless the call comes back: after a trap the stack is not as it was
         const answer = classNumber === undefined
-            ? this.#entries.margin(at.sheet, lengths[0], at.report, lengths[2])
+            ? margin(at.sheet, lengths[0], at.report, lengths[2])
             : this.#entries.explain(at.sheet, lengths[0], at.currency, lengths[1], classNumber, at.report, lengths[2]);
         this.#stopped = false;
         return { answer: Number(BigInt.asUintN(64, answer)), lent: () => part(at.report, room) };

@@ -84,6 +84,7 @@ use Rattle.report.proofs.write.Reads as report-write
 use Rattle.reasons.proofs.asked.Reads as reasons-asked
 use Rattle.reasons.proofs.write.Reads as reasons-write
 use Rattle.kit.proofs.brm_margin.Reads as kit-brm-margin
+use Rattle.kit.proofs.brm_margin_full.Reads as kit-brm-margin-full
 use Rattle.kit.proofs.brm_explain.Reads as kit-brm-explain
 use Rattle.shown.proofs.show.Reads as shown-show
 use Rattle.shown.proofs.show_why.Reads as shown-show-why
@@ -321,6 +322,9 @@ reasons-write-fixed κs a x y s u p q = both p q
 
 pub kit-brm-margin-fixed : FixesSeen kit-brm-margin.Post {B = ℕ × Text} (λ κs x s. (x, now (s .1 .0)))
 kit-brm-margin-fixed κs a x y s u p q = one p q
+
+pub kit-brm-margin-full-fixed : FixesSeen kit-brm-margin-full.Post {B = ℕ × Text} (λ κs x s. (x, now (s .1 .0)))
+kit-brm-margin-full-fixed κs a x y s u p q = one p q
 
 pub kit-brm-explain-fixed : FixesSeen kit-brm-explain.Post {B = ℕ × Text} (λ κs x s. (x, now (s .1 .1 .1 .0)))
 kit-brm-explain-fixed κs a x y s u p q = one p q

@@ -1,5 +1,5 @@
 // The figures of document 01 that are not starred, and the cases under tests/, run on the kit itself and compared.
-// Its arguments are the cases, each as two files: a sheet, and what the forecast prints for it.
+// Its arguments are the cases, each as three files: a sheet, and what the forecast prints for it, quiet and full.
 use libc::STDOUT_FILENO;
 ghost use Prim.Native.Nat.{_≤_};
 ghost use Rattle.io.specs.Counts.{Counts};
@@ -24,23 +24,45 @@ fn read_file(name: &[u8], text: &mut [u8]) -> usize
     size
 }
 
-// One case, by the places of its two files among the arguments.
-fn run_case(
-    sheet_place: usize, // arguments
+// Whether the report of a sheet is the text in the file at a place among the arguments.
+fn is_shown(
+    sheet: &[u8],
     text_place: usize, // arguments
-) {
-    let mut sheet_name = io::buffer();
-    let mut text_name = io::buffer();
-    let mut sheet = [0u8; 65537];
+    full: bool, // or quiet
+) -> bool {
+    let mut name = io::buffer();
     let mut text = [0u8; 32768];
     let mut out = [0u8; 32768];
-    let a = os::arg(sheet_place, &mut sheet_name); // bytes
-    let b = os::arg(text_place, &mut text_name); // bytes
-    let size = read_file(&sheet_name[..a], &mut sheet); // bytes
-    let expected = read_file(&text_name[..b], &mut text); // bytes
-    let shown = shown::show(&sheet[..size], &mut out); // bytes
-    let same = check::same(&out[..shown], &text[..expected]);
-    say(&sheet_name[..a], same);
+    let letters = os::arg(text_place, &mut name); // bytes
+    let expected = read_file(&name[..letters], &mut text); // bytes
+    let shown = shown::show(sheet, &mut out, full); // bytes
+    check::same(&out[..shown], &text[..expected])
+}
+
+// One case, by the place of the first of its three files among the arguments.
+fn run_case(
+    place: usize, // arguments
+)
+    requires { ⌜ place ≤ 3_000 ⌝ }
+{
+    let mut name = io::buffer();
+    let mut sheet = [0u8; 65537];
+    let letters = os::arg(place, &mut name); // bytes
+    let size = read_file(&name[..letters], &mut sheet); // bytes
+    let quiet = is_shown(&sheet[..size], place + 1, false);
+    let full = is_shown(&sheet[..size], place + 2, true);
+    say(&name[..letters], quiet & full);
+}
+
+// Whether the entries of both listings refuse a sheet with this number.
+fn both_refuse(
+    sheet: &[u8],
+    out: &mut [u8],
+    number: u64, // 65,536 × refusal + line
+) -> bool {
+    let quiet = kit::brm_margin(sheet, out);
+    let full = kit::brm_margin_full(sheet, out);
+    (quiet == number) & (full == number)
 }
 
 // Figure 10: a sheet of 65,536 bytes is judged by its lines, here refused 3 by its first, which is empty; one byte more, and
@@ -50,21 +72,21 @@ fn run_sizes() {
     let over = [10u8; 65537];
     let mut out = [0u8; 32768];
     let mut short = [0u8; 32767];
-    let judged = kit::brm_margin(&most, &mut out);
-    say(b"a sheet of 65,536 bytes", judged == 3 * 65536 + 1);
-    let too_long = kit::brm_margin(&over, &mut out);
-    say(b"a sheet of 65,537 bytes", too_long == 2 * 65536);
-    let too_short = kit::brm_margin(&most, &mut short);
-    say(b"a buffer of 32,767 bytes", too_short == 65536);
+    let judged = both_refuse(&most, &mut out, 3 * 65536 + 1);
+    say(b"a sheet of 65,536 bytes", judged);
+    let too_long = both_refuse(&over, &mut out, 2 * 65536);
+    say(b"a sheet of 65,537 bytes", too_long);
+    let too_short = both_refuse(&most, &mut short, 65536);
+    say(b"a buffer of 32,767 bytes", too_short);
 }
 
 fn main() {
     run_sizes();
     let count = os::arg_count();
-    for pair in 0..1000 {
-        let place: usize = 2 * pair + 1; // arguments
-        if place + 1 < count {
-            run_case(place, place + 1);
+    for case in 0..1000 {
+        let place: usize = 3 * case + 1; // arguments
+        if place + 2 < count {
+            run_case(place);
         }
     }
 }

@@ -1,5 +1,5 @@
-// A sheet on standard input to what the forecast prints for it on standard output: its report, or with two words, a currency and
-// a class, why the margin of that class is what it is; and `N;refusal;line` alone where it is refused.
+// A sheet on standard input to what the forecast prints for it on standard output: its report, quiet, or with one word full; or with
+// two words, a currency and a class, why the margin of that class is what it is; and `N;refusal;line` alone where it is refused.
 use libc::STDIN_FILENO;
 use libc::STDOUT_FILENO;
 ghost use Prim.Native.Nat.{_≤_};
@@ -20,15 +20,16 @@ fn show_why(sheet: &[u8], out: &mut [u8]) -> usize
     shown::show_why(sheet, &currency[..letters], class, out)
 }
 
-// The report, or where there are two words the explanation that they ask for.
+// The quiet report, or where there is one word the full one, or where there are two the explanation that they ask for.
 fn show_asked(sheet: &[u8], out: &mut [u8]) -> usize
     requires { ⌜ 32_768 ≤ length (now out) ⌝ }
     ensures { λ r. ⌜ Counts r (now (out .exit)) ⌝ }
 {
-    if os::arg_count() == 3 {
+    let count = os::arg_count(); // words, and the program's name
+    if count == 3 {
         return show_why(sheet, out);
     }
-    shown::show(sheet, out)
+    shown::show(sheet, out, count == 2)
 }
 
 fn main() {

@@ -1,4 +1,4 @@
--- What was read of a sheet, refused or accepted, and what either entry then answers.
+-- What was read of a sheet, refused or accepted, and what an entry then answers.
 use Prim.Native.Nat.{ℕ, _+_, _≤_}
 use native.Mathlib.Nat.{zero-add}
 use native.Mathlib.Omega.{arith}

@@ -1,4 +1,4 @@
--- The three demands, proved of the kit's value. No axiom.
+-- The three demands, proved of the kit's values, for either listing at once. No axiom.
 use Prim.Native.Nat.{ℕ, _+_, _≤_}
 use native.Mathlib.Omega.{arith}
 use mathlib.Core.Bool.{Bool, true, _&&_}
@@ -9,7 +9,7 @@ use lib.ListN.{length, take, drop}
 use lib.Seq.{take-append-seam}
 use Rattle.paper.specs.Units.{Text, Room, Number, Currency}
 use Rattle.paper.specs.Rows.{ClassRow, PriorityRow, Tables}
-use Rattle.paper.specs.Lists.{sum, every, joinedUp}
+use Rattle.paper.specs.Lists.{sum, every, only, joinedUp}
 use Rattle.paper.specs.Text.{same}
 use Rattle.paper.specs.Days.{day}
 use Rattle.paper.specs.Currencies.{currencies}
@@ -17,10 +17,10 @@ use Rattle.paper.specs.Valuation.{Valued, valuedFrom}
 use Rattle.paper.specs.Offsetting.{netsIn, Book, opening}
 use Rattle.paper.specs.Refusals.{Outcome, refused, accepted, judged, _>>=_, isClass, isFactor, hasClass, rulesOf, priorityKind}
 use Rattle.paper.specs.Sheet.{readSheet}
-use Rattle.paper.specs.Report.{tradeLine, marginOf, classLine, currencyLine, markIn, currencyLines, reportOf}
-use Rattle.paper.specs.Answer.{Answer, roomRules, tablesOf, answer, numberOf, bufferAfter, handedBack, Kit, kit}
+use Rattle.paper.specs.Report.{Listing, isListed, tradeLine, marginOf, classLine, currencyLine, markIn, currencyLines, reportOf}
+use Rattle.paper.specs.Answer.{Answer, roomRules, tablesOf, answerBy, numberOf, bufferAfter, handedBack, Kit, kit}
 use Rattle.paper.specs.Tables.{sheetOf, hold, holdDown, Admitted}
-use Rattle.paper.specs.Demands.{IsAnswer, Gives, Reports, Demand1, Demand2, Demand3, Reordering, RowTakes, names, withPriorities}
+use Rattle.paper.specs.Demands.{IsAnswer, Gives, Demand1, Demand2, Demand3, Reordering, RowTakes, names, withPriorities}
 use Rattle.paper.proofs.Lists.{tests, passes, holds, together, both, every-cons, each-every}
 use Rattle.paper.proofs.Rules.{each-holds, priorities-at-most}
 use Rattle.paper.proofs.Outcomes.{Sound, judged-holds, judged-accepted, judged-sound, both-accepted, bind-sound, accepted-one}
@@ -33,15 +33,20 @@ use Rattle.paper.proofs.Reordering.{Reordered, Apart, same-length, same
 use Rattle.paper.proofs.Offsetting.{taken-there, row-conserves, row-lowers, rows-keep, rows-reordered, same-offsets}
 
 -- The kit gives the answer of document 01, whatever the sheet and the buffer: its number, and what the buffer then holds
-pub gives-answer : (sheet buffer : Text) (a : Answer) → answer (length buffer) sheet ≡ a
-    → kit sheet buffer ≡ (numberOf a, bufferAfter a buffer)
+pub gives-answer : (listing : Listing) (sheet buffer : Text) (a : Answer) → answerBy listing (length buffer) sheet ≡ a
+    → kit listing sheet buffer ≡ (numberOf a, bufferAfter a buffer)
 unfolding kit
-gives-answer sheet buffer a e = ap (λ (a : Answer). handedBack a buffer) e
+gives-answer listing sheet buffer a e = ap (λ (a : Answer). handedBack a buffer) e
 
 -- A kit that hands an answer back gives it: a refusal which leaves the buffer as it was, or the report at its start
 pub gives : (kit : Kit) (sheet buffer : Text) (a : Answer) → kit sheet buffer ≡ handedBack a buffer → Gives kit sheet buffer a
 gives kit sheet buffer (refused number line) e = e
 gives kit sheet buffer (accepted report) e = e
+
+-- ... and the other way round
+pub given-back : (kit : Kit) (sheet buffer : Text) (a : Answer) → Gives kit sheet buffer a → kit sheet buffer ≡ handedBack a buffer
+given-back kit sheet buffer (refused number line) e = e
+given-back kit sheet buffer (accepted report) e = e
 
 -- ---- what an answer may be
 
@@ -79,17 +84,18 @@ goes-on highest most room sheet next fits = go (tablesOf room sheet) (tables-sou
     go (accepted t) s admitted = fits t (admitted t refl .0)
 
 -- So is what the kit answers, whatever the sheet
-pub is-answer : (room : Room) (sheet : Text) → IsAnswer 12 (answer room sheet)
-is-answer room sheet = goes-on 12 (omega arith) room sheet (λ t. accepted (reportOf t)) report-fits
+pub is-answer : (listing : Listing) (room : Room) (sheet : Text) → IsAnswer 12 (answerBy listing room sheet)
+is-answer listing room sheet = goes-on 12 (omega arith) room sheet (λ t. accepted (reportOf listing t)) (report-fits listing)
 
 -- Demand 1. The kit answers every sheet of bytes and ends. A bad sheet is refused by number and line, and a refusal
 -- leaves every byte of the lent report as it was. Callers check nothing first.
-pub demand-1 : Demand1 kit
-demand-1 = (
+pub demand-1 : (listing : Listing) → Demand1 (kit listing)
+demand-1 listing = (
   λ sheet buffer s b.
-      let a = answer (length buffer) sheet in
-      (a, is-answer (length buffer) sheet, gives kit sheet buffer a (gives-answer sheet buffer a refl)),
-  λ sheet buffer s b number line e. gives-answer sheet buffer (refused number line) e,
+      let a = answerBy listing (length buffer) sheet in
+      (a, is-answer listing (length buffer) sheet, gives (kit listing) sheet buffer a (gives-answer listing sheet buffer a refl)),
+  λ sheet buffer s b number line e.
+      gives-answer listing sheet buffer (refused number line) (ap (λ (o : Outcome Tables). o >>= λ t. accepted (reportOf listing t)) e),
   smallest-number,
   earliest-line,
 )
@@ -106,10 +112,11 @@ tables-read room t h a =
     ap (λ (o : Outcome Text). o >>= readSheet) (judged-holds 0 (sheetOf t) (roomRules room (sheetOf t)) holding) ∙ written-read t a
 
 -- The answer to it is their report
-answer-admitted : (room : Room) (t : Tables) → 32_768 ≤ room → Admitted t → answer room (sheetOf t) ≡ accepted (reportOf t)
-answer-admitted room t h a = ap (λ (o : Outcome Tables). o >>= λ t. accepted (reportOf t)) (tables-read room t h a)
+answer-admitted : (listing : Listing) (room : Room) (t : Tables) → 32_768 ≤ room → Admitted t
+    → answerBy listing room (sheetOf t) ≡ accepted (reportOf listing t)
+answer-admitted listing room t h a = ap (λ (o : Outcome Tables). o >>= λ t. accepted (reportOf listing t)) (tables-read room t h a)
 
--- A kit gives one report
+-- One report is handed back
 one-report : (r report buffer : Text) → numberOf (accepted r) ≡ numberOf (accepted report)
     → bufferAfter (accepted r) buffer ≡ bufferAfter (accepted report) buffer → r ≡ report
 one-report r report buffer number bytes =
@@ -117,29 +124,40 @@ one-report r report buffer number bytes =
     ∙ ap (λ (n : ℕ). take n (report ++ drop (length report) buffer)) number
     ∙ take-append-seam report (drop (length report) buffer)
 
+-- One answer is
+pub one-answer : (highest : Number) (buffer : Text) (a b : Answer) → IsAnswer highest a → IsAnswer highest b
+    → handedBack a buffer ≡ handedBack b buffer → a ≡ b
+one-answer highest buffer (refused number line) (refused n l) (low, high, below) (lowest, most, less) e =
+    let same = ap (λ (x : ℕ × Text). x .0) e in
+    ap₂ refused (omega (arith, same)) (omega (arith, same))
+one-answer highest buffer (refused number line) (accepted report) (low, high, below) fits e =
+    absurd (omega (arith, ap (λ (x : ℕ × Text). x .0) e))
+one-answer highest buffer (accepted report) (refused number line) fits (low, high, below) e =
+    absurd (omega (arith, ap (λ (x : ℕ × Text). x .0) e))
+one-answer highest buffer (accepted r) (accepted report) small fits e =
+    ap accepted (one-report r report buffer (ap (λ (x : ℕ × Text). x .0) e) (ap (λ (x : ℕ × Text). x .1) e))
+
+-- So what a kit of ours gives is its answer
+pub answer-given : (listing : Listing) (sheet buffer : Text) (a : Answer) → IsAnswer 12 a → Gives (kit listing) sheet buffer a
+    → answerBy listing (length buffer) sheet ≡ a
+answer-given listing sheet buffer a is given =
+    let own = answerBy listing (length buffer) sheet in
+    one-answer 12 buffer own a (is-answer listing (length buffer) sheet) is
+    (sym (gives-answer listing sheet buffer own refl) ∙ given-back (kit listing) sheet buffer a given)
+
 -- Demand 2. An accepted sheet gives exactly the figures of document 01, over whole numbers, and a sheet is accepted
--- exactly when document 01's rules admit it.
-pub demand-2 : Demand2 kit
-demand-2 sheet buffer s b room report fits = (
-  λ given. go (answer (length buffer) sheet) refl (is-answer (length buffer) sheet) given,
+-- exactly when document 01's rules admit it. The K lines in its report are those of the kit's listing.
+pub demand-2 : (listing : Listing) → Demand2 listing (kit listing)
+demand-2 listing sheet buffer s b room report fits = (
+  λ given.
+      both-accepted (tablesOf (length buffer) sheet) (λ t. accepted (reportOf listing t)) report
+      (answer-given listing sheet buffer (accepted report) fits given) λ t e k.
+      let (admitted, written) = tables-admitted (length buffer) sheet t e in
+      (t, admitted, written, sym (accepted-one k)),
   λ (t, admitted, written, figures).
-      gives-answer sheet buffer (accepted report)
-      (ap (answer (length buffer)) written ∙ answer-admitted (length buffer) t room admitted ∙ ap accepted (sym figures)),
+      gives-answer listing sheet buffer (accepted report)
+      (ap (answerBy listing (length buffer)) written ∙ answer-admitted listing (length buffer) t room admitted ∙ ap accepted (sym figures)),
 )
-  where
-    go : (a : Answer) → answer (length buffer) sheet ≡ a → IsAnswer 12 a → Reports kit sheet buffer report
-        → (t : Tables) × Admitted t × (sheet ≡ sheetOf t) × (report ≡ reportOf t)
-    go (refused number line) e (low, high, below) given =
-        let same : numberOf (refused number line) ≡ length report =
-        ap (λ x. x .0) (sym (gives-answer sheet buffer (refused number line) e) ∙ given)
-        in
-        absurd (omega arith)
-    go (accepted r) e fits given =
-        let both = sym (gives-answer sheet buffer (accepted r) e) ∙ given in
-        let same : r ≡ report = one-report r report buffer (ap (λ x. x .0) both) (ap (λ x. x .1) both) in
-        both-accepted (tablesOf (length buffer) sheet) (λ t. accepted (reportOf t)) r e λ t e1 k1.
-        let (admitted, written) = tables-admitted (length buffer) sheet t e1 in
-        (t, admitted, written, sym same ∙ sym (accepted-one k1))
 
 -- ---- priority rows in another order
 
@@ -187,36 +205,37 @@ reordered-admitted t os r (d, c, o, s, v) = (
 )
 
 -- ... with the same report
-reordered-report : (t : Tables) (os : List PriorityRow) → Reordered (Apart names) (t .priorities) os
-    → reportOf (withPriorities t os) ≡ reportOf t
+reordered-report : (listing : Listing) (t : Tables) (os : List PriorityRow) → Reordered (Apart names) (t .priorities) os
+    → reportOf listing (withPriorities t os) ≡ reportOf listing t
 unfolding reportOf currencyLines
-reordered-report t os r =
+reordered-report listing t os r =
     ap₂ (λ (vs : List Valued) (currency : List Valued → Currency → Text).
     joinedUp (map tradeLine vs) ++ joinedUp (map (currency vs) (currencies (t .securities))))
     (ap (λ (n : ℕ). valuedFrom (day (t .date)) (t .securities) (3 + length (t .classes) + n + length (t .securities)) (t .trades))
     (sym (same-length (Apart names) r)))
     (fun-ext λ vs. fun-ext λ c.
     ap (λ (b : Book).
-    joinedUp (map (classLine c b) (t .classes)) ++ currencyLine c (markIn c vs) (sum (map (marginOf b) (t .classes))))
+    joinedUp (map (classLine c b) (only (isListed listing b) (t .classes)))
+    ++ currencyLine c (markIn c vs) (sum (map (marginOf b) (t .classes))))
     (sym (same-offsets (t .priorities) os r (opening (netsIn t vs c)))))
 
 -- Demand 3. Reorder an accepted sheet's priority rows so that each class still meets the rows that name it, the same rows
 -- in the same order: the new sheet is accepted, with the same report byte for byte. Each row takes as much off the longs
 -- as off the shorts, no position grows or falls below zero, and a class that no row names keeps both its positions.
-pub demand-3 : Demand3 kit
-demand-3 = (reordering, row-takes, rows-keep)
+pub demand-3 : (listing : Listing) → Demand3 (kit listing)
+demand-3 listing = (reordering, row-takes, rows-keep)
   where
-    reordering : Reordering kit
+    reordering : Reordering (kit listing)
     reordering sheet buffer s b room report fits given =
-        let (t, admitted, written, figures) = demand-2 sheet buffer s b room report fits .0 given in (
+        let (t, admitted, written, figures) = demand-2 listing sheet buffer s b room report fits .0 given in (
           t,
           admitted,
           written,
           λ os same.
               let r = rows-reordered (t .priorities) os same in
-              gives-answer (sheetOf (withPriorities t os)) buffer (accepted report)
-              (answer-admitted (length buffer) (withPriorities t os) room (reordered-admitted t os r admitted)
-              ∙ ap accepted (reordered-report t os r ∙ sym figures)),
+              gives-answer listing (sheetOf (withPriorities t os)) buffer (accepted report)
+              (answer-admitted listing (length buffer) (withPriorities t os) room (reordered-admitted t os r admitted)
+              ∙ ap accepted (reordered-report listing t os r ∙ sym figures)),
         )
 
     row-takes : RowTakes

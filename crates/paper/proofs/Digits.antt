@@ -109,6 +109,10 @@ number-spelt (b ∷ c ∷ bs) h =
     let d = bounds 49 57 b (k .0) in
     spelt-behind (c ∷ bs) [] (omega arith) (k .1) (rw (append-nil (c ∷ bs)) (first b (c ∷ bs) (omega arith)))
 
+-- What is written means the number
+pub digits-decimal : (n : ℕ) → decimal 0 (digits n) ≡ n
+digits-decimal n = spelt-decimal (spelt n)
+
 -- A number is written in digits alone
 pub digits-all : (n : ℕ) → every isDigit (digits n) ≡ true
 digits-all n = spelt-all (spelt n) refl
@@ -130,7 +134,7 @@ number-some t p h = simp (le-leb (length t) 19 p, h)
 
 -- A number that is written is read again
 pub digits-number : (n : ℕ) → n < 10 ^ 19 → numberIn (digits n) ≡ some n
-digits-number n h = number-some (digits n) (digits-length n 18 h) (digits-form n) ∙ ap some (spelt-decimal (spelt n))
+digits-number n h = number-some (digits n) (digits-length n 18 h) (digits-form n) ∙ ap some (digits-decimal n)
 
 -- A number that is read is written as it was
 pub number-digits : (t : Text) (n : ℕ) → numberIn t ≡ some n → digits n ≡ t
@@ -202,7 +206,7 @@ date-some t e h = simp (eq-eqb (length t) 8 e, h)
 
 -- A real day that is written is read again
 pub date-back : (d : Date) → isDay d ≡ true → dateIn (digits d) ≡ d
-date-back d h = date-some (digits d) (date-eight d h) (digits-all d) ∙ spelt-decimal (spelt d)
+date-back d h = date-some (digits d) (date-eight d h) (digits-all d) ∙ digits-decimal d
 
 -- What digits mean behind a number is below the next number's
 decimal-below : (m : ℕ) (bs : Text) → every isDigit bs ≡ true → decimal m bs < suc m * 10 ^ length bs

@@ -11,8 +11,7 @@ use Rattle.paper.specs.Text.{ascii, LF, semicolon, lines, same}
 use Rattle.paper.specs.Rows.{Tables}
 use Rattle.paper.specs.Refusals.{Outcome, refused, accepted, _>>=_, judged}
 use Rattle.paper.specs.Sheet.{Rest, headerRules, header, readSheet}
-use Rattle.paper.specs.Report.{reportOf}
-use Rattle.paper.specs.Answer.{roomRules, answer}
+use Rattle.paper.specs.Answer.{roomRules, tablesOf}
 use Rattle.paper.specs.Tables.{hold}
 use Rattle.paper.specs.Demands.{Smallest, firstLines, Behind, EarliestLine}
 use Rattle.paper.proofs.Lists.{tests, left, together}
@@ -124,17 +123,7 @@ read-earliest sheet number line e = go (header sheet) refl
         subst (ReadEarliest number line) (sym written)
         (rows-earliest (drop 6 sheet) number line (sym (read-rows (drop 6 sheet)) ∙ ap readSheet (sym written) ∙ e))
 
--- The report has no part in it
-behind-report : (n : ℕ) (o : Outcome Tables) → Behind n o → Behind n (o >>= λ t. accepted (reportOf t))
-behind-report n (refused number line) h = h
-behind-report n (accepted t) h = tt
-
-before-report : (o : Outcome Tables) (number : Number) (line : Line) → (o >>= λ t. accepted (reportOf t)) ≡ refused number line
-    → o ≡ refused number line
-before-report (refused m l) number line e = let one = refused-one e in ap₂ refused (one .0) (one .1)
-before-report (accepted t) number line e = not-accepted (sym e)
-
--- Nor has the room, where it is enough: a sheet that is cut has no more bytes
+-- The room has no part in it, where it is enough: a sheet that is cut has no more bytes
 room-holds : (room : Room) (sheet : Text) → T (hold (roomRules room sheet)) → (n : ℕ) → T (hold (roomRules room (firstLines n sheet)))
 room-holds room sheet h n =
     let short : length sheet ≤ 65_536 = search tests in
@@ -142,31 +131,24 @@ room-holds room sheet h n =
     (together (leb (length (firstLines n sheet)) 65_536) true
     (le→leb (length (firstLines n sheet)) 65_536 (omega (arith, cut-shorter n sheet))) tt)
 
-room-read : (room : Room) (sheet : Text) → T (hold (roomRules room sheet))
-    → answer room sheet ≡ (readSheet sheet >>= λ t. accepted (reportOf t))
-room-read room sheet h =
-    ap (λ (o : Outcome Text). o >>= readSheet >>= λ t. accepted (reportOf t)) (judged-holds 0 sheet (roomRules room sheet) h)
+room-read : (room : Room) (sheet : Text) → T (hold (roomRules room sheet)) → tablesOf room sheet ≡ readSheet sheet
+room-read room sheet h = ap (λ (o : Outcome Text). o >>= readSheet) (judged-holds 0 sheet (roomRules room sheet) h)
 
 -- What is refused is the earliest line
 pub earliest-line : EarliestLine
 earliest-line room sheet number line e = go (judged 0 sheet (roomRules room sheet)) refl
   where
     go : (o : Outcome Text) → judged 0 sheet (roomRules room sheet) ≡ o
-        → ((n : ℕ) → n < line → Behind n (answer room (firstLines n sheet)))
-        × (1 ≤ line → answer room (firstLines line sheet) ≡ refused number line)
+        → ((n : ℕ) → n < line → Behind n (tablesOf room (firstLines n sheet)))
+        × (1 ≤ line → tablesOf room (firstLines line sheet) ≡ refused number line)
     go (refused m l) h =
         let on : l ≡ 0 = subst (Smallest {A = Text} 0 (roomRules room sheet)) h (smallest-number .0 room sheet) .0 in
-        let same : l ≡ line =
-        refused-one (sym (ap (λ (o : Outcome Text). o >>= readSheet >>= λ t. accepted (reportOf t)) h) ∙ e) .1
-        in
+        let same : l ≡ line = refused-one (sym (ap (λ (o : Outcome Text). o >>= readSheet) h) ∙ e) .1 in
         (λ n k. absurd (omega (arith, on, same)), λ k. absurd (omega (arith, on, same)))
     go (accepted s) h =
         let holding = judged-accepted 0 sheet s (roomRules room sheet) h .1 in
-        let read = before-report (readSheet sheet) number line (sym (room-read room sheet holding) ∙ e) in
-        let (above, here) = read-earliest sheet number line read in
-        let cut : (n : ℕ) → answer room (firstLines n sheet) ≡ (readSheet (firstLines n sheet) >>= λ t. accepted (reportOf t)) =
+        let (above, here) = read-earliest sheet number line (sym (room-read room sheet holding) ∙ e) in
+        let cut : (n : ℕ) → tablesOf room (firstLines n sheet) ≡ readSheet (firstLines n sheet) =
         λ n. room-read room (firstLines n sheet) (room-holds room sheet holding n)
-        in (
-          λ n k. subst (Behind n) (sym (cut n)) (behind-report n (readSheet (firstLines n sheet)) (above n k)),
-          λ k. cut line ∙ ap (λ (o : Outcome Tables). o >>= λ t. accepted (reportOf t)) here,
-        )
+        in
+        (λ n k. subst (Behind n) (sym (cut n)) (above n k), λ k. cut line ∙ here)

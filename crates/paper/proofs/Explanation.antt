@@ -5,7 +5,7 @@ use native.Mathlib.Omega.{arith}
 use mathlib.Core.Bool.{Bool, true, false}
 use mathlib.Core.List.{List, [], _∷_, map, append-nil}
 use mathlib.Core.Option.{none, some}
-use mathlib.Core.Path.{_≡_, refl, sym, ap, _∙_, subst}
+use mathlib.Core.Path.{_≡_, refl, sym, ap, _∙_, subst, subst⁻¹}
 use borrow.Author.Tests.{eqb-true, eqb-false, eq-eqb, ltb-true, ltb-false, lt-ltb}
 use lib.Dec.{eqb, ltb}
 use lib.ListN.{length, getD, take}
@@ -16,10 +16,10 @@ use Rattle.paper.specs.Rows.{ClassRow, PriorityRow, Tables}
 use Rattle.paper.specs.Currencies.{hasCurrency}
 use Rattle.paper.specs.Valuation.{Valued, valuedIn}
 use Rattle.paper.specs.Offsetting.{Book, position, netsIn, opening, offsetRow, Turn, turns, offsetAll, total, openingIn, remainingIn}
-use Rattle.paper.specs.Report.{tradeLine, marginOf, classLine, currencyLine, markIn, currencyLines, reportOf}
+use Rattle.paper.specs.Report.{Listing, full, isListed, tradeLine, marginOf, classLine, currencyLine, markIn, currencyLines, reportOf}
 use Rattle.paper.specs.Explanation.{Took, byLong, byShort, byBoth, tookAt, tookFrom, tookAny, prioritiesLine, setterOf}
 use Rattle.paper.specs.Reasons.{Takes, TookSo, SetBy, HasLine}
-use Rattle.paper.proofs.Lists.{each-map, each-at, each-place, each-kept, kept-each, none-kept, sum-kept, Among, each-among, order-only}
+use Rattle.paper.proofs.Lists.{each-map, each-at, each-place, each-kept, kept-each, none-kept, sum-kept, Among, each-among, joined-only, order-only}
 use Rattle.paper.proofs.Lines.{IsLines, line-is, both-are, all-are, line-above, line-below, line-among}
 use Rattle.paper.proofs.Currencies.{currency-among}
 use Rattle.paper.proofs.Offsetting.{row-lowers}
@@ -223,27 +223,29 @@ currency-line-is c mark initial =
     line-is (ascii "Z" ∷ c ∷ signedDigits mark ∷ digits initial ∷ digits (total initial mark) ∷ [])
 
 -- A currency's are lines
-currency-lines-are : (t : Tables) (vs : List Valued) (c : Currency) → IsLines (currencyLines t vs c)
+currency-lines-are : (listing : Listing) (t : Tables) (vs : List Valued) (c : Currency) → IsLines (currencyLines listing t vs c)
 unfolding currencyLines
-currency-lines-are t vs c =
+currency-lines-are listing t vs c =
     let b = offsetAll (t .priorities) (opening (netsIn t vs c)) in
-    both-are (all-are (classLine c b) (class-line-is c b) (t .classes))
+    both-are (all-are (classLine c b) (class-line-is c b) (only (isListed listing b) (t .classes)))
     (currency-line-is c (markIn c vs) (sum (map (marginOf b) (t .classes))))
 
--- The K line of a C row stands in the report, for each currency of the sheet
+-- The K line of a C row stands in the full report, for each currency of the sheet
 pub class-line-there : (t : Tables) (c : Currency) → hasCurrency (t .securities) c ≡ true
-    → Each (λ row. (fs : Fields) → lineOf fs ≡ classLine c (remainingIn t c) row → HasLine fs (reportOf t)) (t .classes)
+    → Each (λ row. (fs : Fields) → lineOf fs ≡ classLine c (remainingIn t c) row → HasLine fs (reportOf full t)) (t .classes)
 unfolding reportOf currencyLines
 class-line-there t c has = each-map there (each-among (t .classes))
   where
     b : Book
     b = remainingIn t c
 
-    there : (row : ClassRow) → Among row (t .classes) → (fs : Fields) → lineOf fs ≡ classLine c b row → HasLine fs (reportOf t)
+    there : (row : ClassRow) → Among row (t .classes) → (fs : Fields) → lineOf fs ≡ classLine c b row → HasLine fs (reportOf full t)
     there row among fs own =
         let vs = valuedIn t in
         let here : HasLine fs (classLine c b row) = ([], ([], sym own ∙ sym (append-nil (lineOf fs)))) in
         line-below fs (all-are tradeLine trade-line-is vs)
-        (line-among (currencyLines t vs) (currency-lines-are t vs) (currency-among (t .securities) c has) fs
-        (line-above fs (line-among (classLine c b) (class-line-is c b) among fs here)
+        (line-among (currencyLines full t vs) (currency-lines-are full t vs) (currency-among (t .securities) c has) fs
+        (line-above fs
+        (subst⁻¹ (HasLine fs) (joined-only (classLine c b) (isListed full b) (t .classes))
+        (line-among (classLine c b) (class-line-is c b) among fs here))
         (currency-line-is c (markIn c vs) (sum (map (marginOf b) (t .classes))))))

@@ -16,7 +16,7 @@ use Rattle.paper.specs.Rows.{Kind, government, corporate, inflation, flo
 use Rattle.paper.specs.Currencies.{currencies}
 use Rattle.paper.specs.Valuation.{Valued, valuedIn}
 use Rattle.paper.specs.Offsetting.{Book, position, Netted, nettedIn, netsIn, total, openingIn, remainingIn}
-use Rattle.paper.specs.Report.{marginOf, markIn, tradeLine, classLine, currencyLine, currencyLines, reportOf}
+use Rattle.paper.specs.Report.{Listing, isListed, marginOf, markIn, tradeLine, classLine, currencyLine, currencyLines, reportOf}
 use Rattle.paper.specs.Explanation.{Took, Setter, byLong, byShort, byBoth, listed, tookAny, setterOf, explanationOf, netLine, tookLine, setterLetter, setterLine, explanationText}
 use Rattle.paper.specs.Tables.{sheetOf, Admitted}
 use Rattle.paper.specs.Reasons.{TookSo}
@@ -88,38 +88,41 @@ currency-line-most c mark initial e m i =
     )
 
 -- The lines of a currency have at most 2,216 bytes
-pub currency-lines-most : (t : Tables) → Admitted t → (c : Currency) → isCurrency c ≡ true
-    → length (currencyLines t (valuedIn t) c) ≤ 2_216
+pub currency-lines-most : (listing : Listing) (t : Tables) → Admitted t → (c : Currency) → isCurrency c ≡ true
+    → length (currencyLines listing t (valuedIn t) c) ≤ 2_216
 unfolding currencyLines
-currency-lines-most t a c e =
+currency-lines-most listing t a c e =
     let f = table-facts t a in
     let g = currency-facts t a c in
     let b = remainingIn t c in
     let mark = markIn c (valuedIn t) in
     let initial = sum (map (marginOf b) (t .classes)) in
+    let own = only (isListed listing b) (t .classes) in
     omega (
       arith,
-      length-append (joinedUp (map (classLine c b) (t .classes))) (currencyLine c mark initial),
-      joined-most (classLine c b) 54 (t .classes) (each-map (λ r h. class-line-most c b r e (g .book) h) (f .classes)),
+      length-append (joinedUp (map (classLine c b) own)) (currencyLine c mark initial),
+      joined-most (classLine c b) 54 own
+          (each-map (λ r h. class-line-most c b r e (g .book) h) (each-only (isListed listing b) (t .classes) (f .classes))),
+      length-only (isListed listing b) (t .classes),
       f .few-classes,
       currency-line-most c mark initial e (g .mark) (g .initial),
     )
 
 -- The report of admitted tables fits its room of 32,768 bytes
-pub report-fits : (t : Tables) → Admitted t → length (reportOf t) ≤ 32_768
+pub report-fits : (listing : Listing) (t : Tables) → Admitted t → length (reportOf listing t) ≤ 32_768
 unfolding reportOf
-report-fits t a =
+report-fits listing t a =
     let f = table-facts t a in
     let v = margined-facts t a in
     let cs = currencies (t .securities) in
     let each = each-currency (λ c. isCurrency c ≡ true) (t .securities) (each-map (λ s g. g .currency) (f .securities)) in
-    let lines = currencyLines t (valuedIn t) in
+    let lines = currencyLines listing t (valuedIn t) in
     omega (
       arith,
       length-append (joinedUp (map tradeLine (valuedIn t))) (joinedUp (map lines cs)),
       joined-most tradeLine 23 (valuedIn t) (each-map trade-line-most (v .each)),
       v .few,
-      joined-most lines 2_216 cs (each-map (λ c e. currency-lines-most t a c e) each),
+      joined-most lines 2_216 cs (each-map (λ c e. currency-lines-most listing t a c e) each),
       few-currencies (t .classes) (t .securities) (a .3),
     )
 

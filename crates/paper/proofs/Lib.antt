@@ -28,3 +28,4 @@ pub mod Explanation
 pub mod Lengths
 pub mod Demands
 pub mod Reasons
+pub mod Quiet

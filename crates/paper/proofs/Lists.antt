@@ -332,6 +332,18 @@ pub joined-append : {A R : Type 0} (piece : R → List A) (xs ys : List R)
 joined-append piece xs ys =
     ap length (joined-parts piece xs ys) ∙ length-append (joinedUp (map piece xs)) (joinedUp (map piece ys))
 
+-- The pieces of those that pass a test are the pieces of all, where one that does not pass has an empty piece
+pub joined-only : {A R : Type 0} (piece : R → List A) (test : R → Bool) (rs : List R)
+    → joinedUp (map piece (only test rs)) ≡ joinedUp (map (λ r. elim (test r) [ true ↦ piece r | false ↦ [] ]) rs)
+joined-only piece test [] = refl
+joined-only {A} {R} piece test (r ∷ rs) = go (test r) (joined-only piece test rs)
+  where
+    go : (b : Bool) → joinedUp (map piece (only test rs)) ≡ joinedUp (map (λ r. elim (test r) [ true ↦ piece r | false ↦ [] ]) rs)
+        → joinedUp (map piece (elim b [ true ↦ r ∷ only test rs | false ↦ only test rs ]))
+        ≡ elim b [ true ↦ piece r | false ↦ [] ] ++ joinedUp (map (λ r. elim (test r) [ true ↦ piece r | false ↦ [] ]) rs)
+    go true rest = ap (λ (l : List A). piece r ++ l) rest
+    go false rest = rest
+
 -- The first of what is made of entries is made of the first of them
 pub take-map : {A B : Type 0} (f : A → B) (n : ℕ) (xs : List A) → take n (map f xs) ≡ map f (take n xs)
 take-map f zero xs = refl

@@ -13,15 +13,14 @@ use Rattle.paper.specs.Rows.{ClassRow, Tables}
 use Rattle.paper.specs.Valuation.{valuedIn}
 use Rattle.paper.specs.Refusals.{Outcome, refused, accepted, judged, _>>=_, hasClass}
 use Rattle.paper.specs.Offsetting.{netsIn, position, openingIn, remainingIn}
-use Rattle.paper.specs.Report.{classLine, reportOf}
+use Rattle.paper.specs.Report.{full, classLine, reportOf}
 use Rattle.paper.specs.Explanation.{Explanation, prioritiesLine, explanationOf, explanationText}
-use Rattle.paper.specs.Answer.{Answer, tablesOf, answer, hasBoth, askRules, explained, numberOf, bufferAfter, handedBack, kit, explainer}
+use Rattle.paper.specs.Answer.{Answer, tablesOf, hasBoth, askRules, explained, numberOf, bufferAfter, handedBack, kit, explainer}
 use Rattle.paper.specs.Tables.{sheetOf, Admitted}
 use Rattle.paper.specs.Demands.{IsAnswer}
 use Rattle.paper.specs.Reasons.{offLong, offShort, explainedLine, Reason, Promise4}
 use Rattle.paper.proofs.Lists.{both, each-map}
 use Rattle.paper.proofs.Sizes.{above-within, below-within}
-use Rattle.paper.proofs.Outcomes.{not-accepted}
 use Rattle.paper.proofs.Rules.{class-range}
 use Rattle.paper.proofs.Totals.{table-facts}
 use Rattle.paper.proofs.Listed.{summed-listed, listed-own, listed-all, listed-order}
@@ -39,7 +38,7 @@ unfolding classLine
 explained-line t c n e row own long short amount = rw (own, long, short, amount)
 
 -- An explanation is the true reason of a class's margin in a currency, where the sheet has both
-pub reason : (t : Tables) → Admitted t → (c : Currency) (n : Class) → hasBoth t c n ≡ true → Reason t c n (reportOf t) (explanationOf t c n)
+pub reason : (t : Tables) → Admitted t → (c : Currency) (n : Class) → hasBoth t c n ≡ true → Reason t c n (reportOf full t) (explanationOf t c n)
 unfolding explanationOf
 reason t a c n has =
     let (currency, class) = both (hasCurrency (t .securities) c) (hasClass (t .classes) n) has in
@@ -93,13 +92,8 @@ is-explained room sheet currency class = goes-on 13 (omega arith) room sheet (an
 
 -- A sheet that is refused a report is refused an explanation, by the same number and line
 refused-alike : (room : Room) (sheet currency : Text) (class : Class) (number : Number) (line : Line)
-    → answer room sheet ≡ refused number line → explained room sheet currency class ≡ refused number line
-refused-alike room sheet currency class number line = go (tablesOf room sheet)
-  where
-    go : (o : Outcome Tables) → (o >>= λ t. accepted (reportOf t)) ≡ refused number line
-        → (o >>= answerFor currency class) ≡ refused number line
-    go (refused m l) e = e
-    go (accepted t) e = not-accepted (sym e)
+    → tablesOf room sheet ≡ refused number line → explained room sheet currency class ≡ refused number line
+refused-alike room sheet currency class number line e = ap (λ (o : Outcome Tables). o >>= answerFor currency class) e
 
 -- Of admitted tables, written as a sheet, the answer is what the question gives of them
 explained-admitted : (room : Room) (t : Tables) (currency : Text) (class : Class) → 32_768 ≤ room → Admitted t
@@ -109,7 +103,7 @@ explained-admitted room t currency class h a = ap (λ (o : Outcome Tables). o >>
 -- The fourth promise. Every call is answered, with a refusal 1..13 or a text that fits. A sheet that is refused a report is
 -- refused an explanation by the same number and line. Of a sheet that has a report a currency or class that it lacks is refused
 -- 13, line 0; any other is explained, and the explanation is the true reason of that report's line.
-pub promise-4 : Promise4 kit explainer
+pub promise-4 : Promise4 (kit full) explainer
 promise-4 = (
   λ sheet currency buffer class s c b.
       let a = explained (length buffer) sheet currency class in
@@ -119,7 +113,7 @@ promise-4 = (
       explainer-answer currency class sheet buffer (refused number line)
       (refused-alike (length buffer) sheet currency class number line e),
   λ sheet currency buffer class s c b room report fits given.
-      let (t, a, written, figures) = demand-2 sheet buffer s b room report fits .0 given in
+      let (t, a, written, figures) = demand-2 full sheet buffer s b room report fits .0 given in
       let text = explanationText (explanationOf t currency class) in
       let answered =
       ap (λ (s : Text). explained (length buffer) s currency class) written ∙ explained-admitted (length buffer) t currency class room a in (

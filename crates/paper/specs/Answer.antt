@@ -1,4 +1,4 @@
--- The kit's answer to a sheet and a report buffer (01, "Report and refusal numbers"; 02 c), and with it the refusals 1, 2 and 13.
+-- The kit's answer to a sheet and a report buffer (01, "Report and refusal numbers"; 02, c and e), and with it the refusals 1, 2 and 13.
 use Prim.Native.Nat.{ℕ, _+_, _*_}
 use mathlib.Core.Bool.{Bool, _&&_}
 use mathlib.Core.List.{List, [], _∷_, _++_}
@@ -9,7 +9,7 @@ use Rattle.paper.specs.Rows.{Tables}
 use Rattle.paper.specs.Currencies.{hasCurrency}
 use Rattle.paper.specs.Refusals.{Outcome, Rule, judged, _>>=_, hasClass}
 use Rattle.paper.specs.Sheet.{readSheet}
-use Rattle.paper.specs.Report.{reportOf}
+use Rattle.paper.specs.Report.{Listing, full, quiet, reportOf}
 use Rattle.paper.specs.Explanation.{explanationOf, explanationText}
 pub use Rattle.paper.specs.Refusals.{refused, accepted}
 
@@ -25,9 +25,17 @@ roomRules room sheet = (1, leb 32_768 room) ∷ (2, leb (length sheet) 65_536) �
 abbrev pub tablesOf : Room → Text → Outcome Tables
 tablesOf room sheet = judged 0 sheet (roomRules room sheet) >>= readSheet
 
--- Then the report
+-- Then the report, with the K lines of a listing
+abbrev pub answerBy : Listing → Room → Text → Answer
+answerBy listing room sheet = tablesOf room sheet >>= λ t. accepted (reportOf listing t)
+
+-- ... quiet, as where nothing else is asked for
 abbrev pub answer : Room → Text → Answer
-answer room sheet = tablesOf room sheet >>= λ t. accepted (reportOf t)
+answer = answerBy quiet
+
+-- ... full, where that is asked for by name
+abbrev pub fullAnswer : Room → Text → Answer
+fullAnswer = answerBy full
 
 -- Whether a sheet has a currency, in an S row, and a class, in a C row
 abbrev pub hasBoth : Tables → Text → Class → Bool
@@ -61,10 +69,11 @@ handedBack a buffer = (numberOf a, bufferAfter a buffer)
 abbrev pub Kit : Type 0
 Kit = Text → Text → ℕ × Text
 
--- The kit of document 01. The contract of `brm_margin` is equality with it, so what is proved of it is proved of the entry
-unfoldable pub kit : Kit
-kit sheet buffer = handedBack (answer (length buffer) sheet) buffer
+-- The kits of document 01, one for each listing. The contract of `brm_margin` is equality with the quiet one, that of
+-- `brm_margin_full` with the full one, so what is proved of them is proved of the entries
+unfoldable pub kit : Listing → Kit
+kit listing sheet buffer = handedBack (answerBy listing (length buffer) sheet) buffer
 
--- The kits of 02 c, one for each question. The contract of `brm_explain` is equality with them
+-- The kits of 02, c, one for each question. The contract of `brm_explain` is equality with them
 unfoldable pub explainer : Text → Class → Kit
 explainer currency class sheet buffer = handedBack (explained (length buffer) sheet currency class) buffer

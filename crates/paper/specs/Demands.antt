@@ -14,8 +14,8 @@ use Rattle.paper.specs.Rows.{ClassRow, PriorityRow, Tables}
 use Rattle.paper.specs.Refusals.{Outcome, Rule, judged, isFactor, refused, accepted, RowKind, rulesOf, Period, dateKind, classKind, priorityKind, securityKind, tradeKind}
 use Rattle.paper.specs.Sheet.{begins, row, headerRules, header}
 use Rattle.paper.specs.Offsetting.{Book, position, taken, offsetRow, offsetAll}
-use Rattle.paper.specs.Report.{reportOf}
-use Rattle.paper.specs.Answer.{Answer, roomRules, answer, Kit}
+use Rattle.paper.specs.Report.{Listing, reportOf}
+use Rattle.paper.specs.Answer.{Answer, roomRules, tablesOf, Kit}
 use Rattle.paper.specs.Tables.{sheetOf, Admitted}
 
 -- A text of bytes: each is 0..255
@@ -91,9 +91,9 @@ Behind n (accepted a) = Unit
 -- the lines that are left; cut it right behind that line, and it is refused as before
 abbrev pub EarliestLine : Type 0
 EarliestLine =
-    (room : Room) (sheet : Text) (number : Number) (line : Line) → answer room sheet ≡ refused number line
-    → ((n : ℕ) → n < line → Behind n (answer room (firstLines n sheet)))
-    × (1 ≤ line → answer room (firstLines line sheet) ≡ refused number line)
+    (room : Room) (sheet : Text) (number : Number) (line : Line) → tablesOf room sheet ≡ refused number line
+    → ((n : ℕ) → n < line → Behind n (tablesOf room (firstLines n sheet)))
+    × (1 ≤ line → tablesOf room (firstLines line sheet) ≡ refused number line)
 
 -- Demand 1. The kit answers every sheet of bytes and ends. A bad sheet is refused by number and line, and a refusal
 -- leaves every byte of the lent report as it was. Callers check nothing first.
@@ -106,22 +106,22 @@ abbrev pub Demand1 : Kit → Type 0
 Demand1 kit =
     ((sheet buffer : Text) → IsBytes sheet → IsBytes buffer → (a : Answer) × IsAnswer 12 a × Gives kit sheet buffer a)
     × ((sheet buffer : Text) → IsBytes sheet → IsBytes buffer → (number : Number) → (line : Line)
-    → answer (length buffer) sheet ≡ refused number line
+    → tablesOf (length buffer) sheet ≡ refused number line
     → Refuses kit sheet buffer number line)
     × SmallestNumber
     × EarliestLine
 
 -- Demand 2. An accepted sheet gives exactly the figures of document 01, over whole numbers, and a sheet is accepted
--- exactly when document 01's rules admit it.
+-- exactly when document 01's rules admit it. The K lines in its report are those of the kit's listing.
 -- Useless kits: one that refuses all fails it at the sheet of Example, which is the writing of admitted tables; one fixed
 -- report at any sheet with another; a length and nothing written at any buffer that does not hold the report already; the
 -- first priority row only at Example, where the first row takes nothing and the second takes 300,000.
-abbrev pub Demand2 : Kit → Type 0
-Demand2 kit =
+abbrev pub Demand2 : Listing → Kit → Type 0
+Demand2 listing kit =
     (sheet buffer : Text) → IsBytes sheet → IsBytes buffer → 32_768 ≤ length buffer
     → (report : Text) → length report ≤ 32_768
     → Reports kit sheet buffer report
-    ↔ ((t : Tables) × Admitted t × (sheet ≡ sheetOf t) × (report ≡ reportOf t))
+    ↔ ((t : Tables) × Admitted t × (sheet ≡ sheetOf t) × (report ≡ reportOf listing t))
 
 -- Whether a row names a class
 abbrev pub names : Class → PriorityRow → Bool

@@ -1,4 +1,5 @@
 -- The sheet of document 01 in full, that its answer is the report printed there, and why each class's margin is what it is.
+use mathlib.Core.Bool.{true, false}
 use mathlib.Core.Path.{_≡_, refl}
 use Rattle.paper.specs.Units.{Text}
 use Rattle.paper.specs.Rounding.{nearest, rounded}
@@ -7,11 +8,11 @@ use Rattle.paper.specs.Text.{ascii, lines, numberIn, dateIn, hasCodeForm
 use Rattle.paper.specs.Valuation.{valuedFrom}
 use Rattle.paper.specs.Sheet.{rowsFrom, readSheet}
 use Rattle.paper.specs.Offsetting.{summed, offsetRow, offsetAll}
-use Rattle.paper.specs.Report.{classLine, currencyLines, reportOf}
+use Rattle.paper.specs.Report.{Listing, classLine, currencyLines, reportOf}
 use Rattle.paper.specs.Lists.{joinedUp}
 use mathlib.Core.List.{[], _∷_}
 use Rattle.paper.specs.Explanation.{explanationOf, explanationText}
-use Rattle.paper.specs.Answer.{answer, explained, accepted}
+use Rattle.paper.specs.Answer.{answerBy, explained, accepted}
 
 -- The sheet
 abbrev pub sheet : Text
@@ -48,10 +49,11 @@ reason = joinedUp (ascii "P;FR0011337880;1110160\n" ∷ ascii "R;6;300000;0\n" �
 abbrev pub shortReason : Text
 shortReason = joinedUp (ascii "P;ZZ0000000016;-600000\n" ∷ ascii "R;6;0;300000\n" ∷ ascii "B;S;300000\n" ∷ [])
 
--- The report is that of the sheet
-pub printed : answer 32_768 sheet ≡ accepted report
+-- The report is that of the sheet, full and quiet: no class has nothing left
+pub printed : (listing : Listing) → answerBy listing 32_768 sheet ≡ accepted report
 unfolding nearest rounded isOpen workingAfter lines numberIn dateIn hasCodeForm hasCheckDigit isCode digits valuedFrom rowsFrom readSheet summed offsetRow offsetAll classLine currencyLines reportOf
-printed = refl
+printed true = refl
+printed false = refl
 
 -- ... and the reason that of class 6
 pub explains : explained 32_768 sheet (ascii "EUR") 6 ≡ accepted reason

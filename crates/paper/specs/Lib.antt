@@ -19,6 +19,7 @@ pub mod Answer
 pub mod Tables
 pub mod Demands
 pub mod Reasons
+pub mod Quiet
 pub mod Figures
 pub mod Example
 pub mod Limits

@@ -19,10 +19,11 @@ use Rattle.paper.specs.Rows.{Kind, government, corporate, inflation, flo
 use Rattle.paper.specs.Valuation.{valuedFrom, valuedIn}
 use Rattle.paper.specs.Refusals.{Outcome, refused, accepted, Rule, judged, isDuration, rulesOf, periodOf, classKind, priorityKind, securityKind, tradeKind}
 use Rattle.paper.specs.Sheet.{rowsFrom, readSheet}
-use Rattle.paper.specs.Offsetting.{position, summed, offsetRow, offsetAll, margin, total}
-use Rattle.paper.specs.Report.{classLine, currencyLines, reportOf}
+use Rattle.paper.specs.Offsetting.{Book, position, summed, offsetRow, offsetAll, margin, total}
+use Rattle.paper.specs.Report.{full, quiet, isListed, classLine, currencyLines, reportOf}
 use Rattle.paper.specs.Explanation.{Took, byLong, byShort, byBoth, isNet, tookAny, setterOf}
-use Rattle.paper.specs.Answer.{answer, explained, numberOf, bufferAfter}
+use Rattle.paper.specs.Answer.{answer, fullAnswer, explained, numberOf, bufferAfter}
+use Rattle.paper.specs.Quiet.{isZeroLine}
 use Rattle.paper.specs.Example.{sheet}
 
 -- Document 01's sheet with another text in a field of a line; field 0 is the letter
@@ -86,7 +87,7 @@ abbrev sale : TradeRow
 sale =
     record { trade = cash; side = seller; code = ascii "ZZ0000000016"; nominal = 1; amount = 1; first = 20_190_614; last = none; rate = none }
 
--- The report of document 01's sheet where line 8 has francs
+-- The full report of document 01's sheet where line 8 has francs
 abbrev francs : Text
 francs =
     joinedUp
@@ -94,6 +95,19 @@ francs =
     ∷ ascii "K;CHF;6;0;0;0\nK;CHF;7;0;600000;29400\nZ;CHF;100000;29400;2840000\n"
     ∷ ascii "K;EUR;6;1110160;0;39411\nK;EUR;7;0;0;0\nZ;EUR;1028170;39411;2912930\n"
     ∷ [])
+
+-- ... and the quiet one
+abbrev quietFrancs : Text
+quietFrancs =
+    joinedUp
+    (ascii "M;9;EUR;1028170\nM;10;CHF;100000\n"
+    ∷ ascii "K;CHF;7;0;600000;29400\nZ;CHF;100000;29400;2840000\n"
+    ∷ ascii "K;EUR;6;1110160;0;39411\nZ;EUR;1028170;39411;2912930\n"
+    ∷ [])
+
+-- Positions of class 1, whole units
+abbrev remaining : Whole → Whole → Book
+remaining long short = record { long = 0 ∷ long ∷ []; short = 0 ∷ short ∷ [] }
 
 -- What a row took, off the long and off the short: whole units
 abbrev took : Whole → Whole → Took
@@ -197,8 +211,14 @@ Limits =
     × (map isNet (pos 0 ∷ pos 1 ∷ negℤ (pos 1) ∷ []) ≡ false ∷ true ∷ true ∷ [])
     × (map tookAny (took 0 0 ∷ took 1 0 ∷ took 0 1 ∷ []) ≡ false ∷ true ∷ true ∷ [])
     × (setterOf 5 3 ≡ byLong) × (setterOf 3 5 ≡ byShort) × (setterOf 4 4 ≡ byBoth) × (setterOf 0 0 ≡ byBoth)
-    -- Line 8 in Swiss francs: currencies apart and rising, a K line for every class, also where nothing is left
-    × (answer 32_768 (changed 8 2 "CHF") ≡ accepted francs)
+    -- Line 8 in Swiss francs: currencies apart and rising, in full a K line for every class, also where nothing is left
+    × (fullAnswer 32_768 (changed 8 2 "CHF") ≡ accepted francs) × (answer 32_768 (changed 8 2 "CHF") ≡ accepted quietFrancs)
+    -- Listed: in full each class; in a quiet report one with a long or a short, its margin 0 or not, and no other
+    × (map (λ b. isListed full b (class 1 government none)) (remaining 0 0 ∷ remaining 1 0 ∷ []) ≡ true ∷ true ∷ [])
+    × (map (λ b. isListed quiet b (class 1 government none)) (remaining 0 0 ∷ remaining 1 0 ∷ remaining 0 1 ∷ remaining 1 1 ∷ []) ≡ false ∷ true ∷ true ∷ true ∷ [])
+    -- A K line of zeros, and lines that are none
+    × (map (λ text. isZeroLine (pieces semicolon (ascii text))) ("K;EUR;10;0;0;0" ∷ "K;EUR;10;1;0;0" ∷ "K;EUR;10;0;1;0" ∷ "K;EUR;10;0;0;1" ∷ "K;EUR;10;10;0;0" ∷ []) ≡ true ∷ false ∷ false ∷ false ∷ false ∷ [])
+    × (map (λ text. isZeroLine (pieces semicolon (ascii text))) ("Z;EUR;0;0;0" ∷ "M;10;EUR;0" ∷ "" ∷ []) ≡ false ∷ false ∷ false ∷ [])
     -- A buffer of 32,768 bytes or more, a sheet of 65,536 or fewer; 65,536 × refusal + line, or the length; what the buffer then holds
     × (answer 32_767 [] ≡ refused 1 0) × (answer 32_768 (replicate 65_537 0) ≡ refused 2 0) × (answer 32_768 (replicate 65_536 0) ≡ refused 3 1)
     × (numberOf (refused 12 501) ≡ 786_933) × (bufferAfter (refused 12 501) (ascii "wxyz") ≡ ascii "wxyz")
@@ -211,4 +231,4 @@ Limits =
 -- The claim
 pub limits : Limits
 unfolding nearest rounded isOpen workingAfter lines numberIn dateIn hasCodeForm hasCheckDigit isCode digits valuedFrom rowsFrom readSheet summed offsetRow offsetAll classLine currencyLines reportOf
-limits = (refl, refl, refl, refl, refl, refl, refl, refl, refl, refl, refl, refl, refl, refl, refl, refl, refl, refl, refl, refl, refl, refl, refl, refl, refl, refl, refl, refl, refl, refl, refl, refl, refl, refl, refl, refl, refl, refl, refl, refl, refl, refl, refl, refl, refl, refl, refl, refl, refl, refl, refl, refl, refl, refl, refl, refl, refl, refl, refl, refl, refl, refl, refl, refl, refl, refl, refl, refl, refl, refl, refl, refl, refl, refl, refl, refl, refl, refl, refl, refl, refl, refl, refl, refl, refl, refl, refl, refl, refl, refl, refl, refl, refl, refl, refl, refl, refl, refl, refl, refl, refl)
+limits = (refl, refl, refl, refl, refl, refl, refl, refl, refl, refl, refl, refl, refl, refl, refl, refl, refl, refl, refl, refl, refl, refl, refl, refl, refl, refl, refl, refl, refl, refl, refl, refl, refl, refl, refl, refl, refl, refl, refl, refl, refl, refl, refl, refl, refl, refl, refl, refl, refl, refl, refl, refl, refl, refl, refl, refl, refl, refl, refl, refl, refl, refl, refl, refl, refl, refl, refl, refl, refl, refl, refl, refl, refl, refl, refl, refl, refl, refl, refl, refl, refl, refl, refl, refl, refl, refl, refl, refl, refl, refl, refl, refl, refl, refl, refl, refl, refl, refl, refl, refl, refl, refl, refl, refl, refl, refl)

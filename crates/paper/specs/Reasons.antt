@@ -17,7 +17,7 @@ use Rattle.paper.specs.Valuation.{valuedIn, signedWorthsIn, netOf, secur
 use Rattle.paper.specs.Refusals.{refused}
 use Rattle.paper.specs.Offsetting.{Netted, Book, position, offsetAll, share, openingIn, remainingIn}
 use Rattle.paper.specs.Explanation.{Took, Setter, byLong, byShort, byBoth, Explanation, prioritiesLine, explanationOf, explanationText}
-use Rattle.paper.specs.Answer.{Answer, answer, hasBoth, Kit}
+use Rattle.paper.specs.Answer.{Answer, tablesOf, hasBoth, Kit}
 use Rattle.paper.specs.Tables.{sheetOf, Admitted}
 use Rattle.paper.specs.Demands.{IsBytes, Refuses, Reports, Gives, IsAnswer}
 
@@ -90,7 +90,7 @@ HasLine line text =
 
 -- ---- the whole
 
--- An explanation is the true reason of what a report says of a class in a currency
+-- An explanation is the true reason of what a full report says of a class in a currency
 pub record Reason (t : Tables) (c : Currency) (n : Class) (report : Text) (e : Explanation) : Type 0 where
   -- The nets above zero add up to the opening long, and those below to the opening short
   pub nets-long : sum (map (λ p. aboveZero (p .net)) (e .nets)) ≡ position (openingIn t c .long) n
@@ -113,18 +113,18 @@ pub record Reason (t : Tables) (c : Currency) (n : Class) (report : Text) (e : E
   pub setter : SetBy (e .setter) (position (remainingIn t c .long) n) (position (remainingIn t c .short) n) (e .amount)
   pub line : Each (λ row. row .class ≡ n → HasLine (explainedLine t c n e row) report) (t .classes)
 
--- The fourth promise, of a kit and of one for each question. Every call is answered, with a refusal 1..13 or a text that fits. A
+-- The fourth promise, of a kit that gives full reports and of one for each question. Every call is answered, with a refusal 1..13 or a text that fits. A
 -- sheet that is refused a report is refused an explanation by the same number and line. Of a sheet that has a report a currency or
 -- class that it lacks is refused 13, line 0; any other is explained, and the explanation is the true reason of that report's line.
 abbrev pub Promise4 : Kit → (Text → Class → Kit) → Type 0
-Promise4 kit explainer =
+Promise4 full explainer =
     ((sheet currency buffer : Text) (class : Class) → IsBytes sheet → IsBytes currency → IsBytes buffer
     → (a : Answer) × IsAnswer 13 a × Gives (explainer currency class) sheet buffer a)
     × ((sheet currency buffer : Text) (class : Class) → IsBytes sheet → IsBytes currency → IsBytes buffer
-    → (number : Number) (line : Line) → answer (length buffer) sheet ≡ refused number line
+    → (number : Number) (line : Line) → tablesOf (length buffer) sheet ≡ refused number line
     → Refuses (explainer currency class) sheet buffer number line)
     × ((sheet currency buffer : Text) (class : Class) → IsBytes sheet → IsBytes currency → IsBytes buffer → 32_768 ≤ length buffer
-    → (report : Text) → length report ≤ 32_768 → Reports kit sheet buffer report
+    → (report : Text) → length report ≤ 32_768 → Reports full sheet buffer report
     → (t : Tables) × Admitted t × (sheet ≡ sheetOf t)
     × (hasBoth t currency class ≡ false → Refuses (explainer currency class) sheet buffer 13 0)
     × (hasBoth t currency class ≡ true

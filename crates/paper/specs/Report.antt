@@ -1,5 +1,7 @@
--- The report (01, "Report and refusal numbers"): M lines, then for each currency its K lines and its Z line.
+-- The report (01, "Report and refusal numbers"; 02, e): M lines, then for each currency its K lines and its Z line.
+use mathlib.Core.Bool.{Bool, true, false, not, _&&_, _||_}
 use mathlib.Core.List.{List, [], _∷_, _++_, map}
+use lib.Dec.{eqb}
 use Rattle.paper.specs.Units.{Text, Currency, SignedCents, Whole}
 use Rattle.paper.specs.Lists.{sum, only, joinedUp}
 use Rattle.paper.specs.Signs.{signedSum}
@@ -24,6 +26,26 @@ classLine currency b c =
     (ascii "K" ∷ currency ∷ digits (c .class) ∷ digits (position (b .long) (c .class)) ∷ digits (position (b .short) (c .class))
     ∷ digits (marginOf b c) ∷ [])
 
+-- Which K lines a report has (02, e)
+abbrev pub Listing : Type 0
+Listing = Bool
+
+-- ... one for every class
+abbrev pub full : Listing
+full = true
+
+-- ... none of zeros
+abbrev pub quiet : Listing
+quiet = false
+
+-- Whether a class's remaining long and short and its margin, whole units, are all zero
+abbrev pub allZero : Book → ClassRow → Bool
+allZero b c = eqb (position (b .long) (c .class)) 0 && eqb (position (b .short) (c .class)) 0 && eqb (marginOf b c) 0
+
+-- Whether a class has its K line
+abbrev pub isListed : Listing → Book → ClassRow → Bool
+isListed listing b c = listing || not (allZero b c)
+
 -- Z;currency;mark-to-market;initial;total, for a currency: cents, whole units, cents
 abbrev pub currencyLine : Currency → SignedCents → Whole → Text
 currencyLine currency mark initial =
@@ -33,15 +55,15 @@ currencyLine currency mark initial =
 abbrev pub markIn : Currency → List Valued → SignedCents
 markIn c vs = signedSum (map (λ v. v .mark) (only (λ v. same (v .security .currency) c) vs))
 
--- A currency's lines: K for every class by rising number, and Z; the initial margin is the sum of the class margins
-unfoldable pub currencyLines : Tables → List Valued → Currency → Text
-currencyLines t vs c =
+-- A currency's lines: K for each class that is listed, by rising number, and Z; the initial margin is the sum of all class margins
+unfoldable pub currencyLines : Listing → Tables → List Valued → Currency → Text
+currencyLines listing t vs c =
     let remaining = offsetAll (t .priorities) (opening (netsIn t vs c)) in
-    joinedUp (map (classLine c remaining) (t .classes))
+    joinedUp (map (classLine c remaining) (only (isListed listing remaining) (t .classes)))
     ++ currencyLine c (markIn c vs) (sum (map (marginOf remaining) (t .classes)))
 
 -- The report of tables
-unfoldable pub reportOf : Tables → Text
-reportOf t =
+unfoldable pub reportOf : Listing → Tables → Text
+reportOf listing t =
     let vs = valuedIn t in
-    joinedUp (map tradeLine vs) ++ joinedUp (map (currencyLines t vs) (currencies (t .securities)))
+    joinedUp (map tradeLine vs) ++ joinedUp (map (currencyLines listing t vs) (currencies (t .securities)))

@@ -2,11 +2,11 @@
 use Prim.Native.Nat.{ℕ, suc, _+_, _≤_, _<_, _^_}
 use native.Mathlib.Omega.{arith}
 use mathlib.Core.Bool.{Bool, true, false}
-use mathlib.Core.List.{List, _∷_, _++_, map}
-use mathlib.Core.Path.{_≡_, refl, ap, ap₂, _∙_}
+use mathlib.Core.List.{List, [], _∷_, _++_, map}
+use mathlib.Core.Path.{_≡_, refl, sym, ap, ap₂, _∙_}
 use lib.IntN.{pos, natAbs}
 use lib.ListN.{length, getD}
-use Rattle.paper.specs.Units.{Text, Line, Currency, SignedCents}
+use Rattle.paper.specs.Units.{Text, Line, Currency, SignedCents, Whole}
 use Rattle.paper.specs.Days.{day}
 use Rattle.paper.specs.Lists.{joinedUp, Each, nil, cons}
 use Rattle.paper.specs.Text.{isCurrency}
@@ -15,10 +15,10 @@ use Rattle.paper.specs.Rows.{SecurityRow, TradeRow, Tables}
 use Rattle.paper.specs.Currencies.{currencies}
 use Rattle.paper.specs.Valuation.{margined, valued, valuedFrom, valuedIn}
 use Rattle.paper.specs.Offsetting.{position, remainingIn}
-use Rattle.paper.specs.Report.{tradeLine, classLine, marginOf, currencyLines, reportOf}
+use Rattle.paper.specs.Report.{Listing, isListed, tradeLine, classLine, marginOf, currencyLines, reportOf}
 use Rattle.paper.specs.Bounds.{mostMark}
 use Rattle.paper.specs.Tables.{Admitted}
-use Rattle.paper.proofs.Lists.{each-map, each-made, each-all}
+use Rattle.paper.proofs.Lists.{each-map, each-made, each-all, joined-only}
 use Rattle.paper.proofs.Bounds.{valued-facts}
 use Rattle.paper.proofs.Currencies.{each-currency}
 use Rattle.paper.proofs.Totals.{TableFacts, table-facts, currency-facts}
@@ -35,7 +35,7 @@ use Rattle.margin.proofs.Trades.{Known, trades-known, tradeIn, security-held, v
 use Rattle.margin.proofs.Paper.{tradesLine, letters, rising-currencies, currencies-few, rank-low}
 use Rattle.lines.specs.Written.{moneyText, markLine, positionLine, totalLine}
 use Rattle.lines.proofs.Spelled.{money-text}
-use Rattle.report.specs.Texts.{moneyAt, marked, markText, positionText, currencyText, noFigures, linesOf, reportText, Writable}
+use Rattle.report.specs.Texts.{moneyAt, marked, markText, listedLine, positionText, currencyText, noFigures, linesOf, reportText, Writable}
 
 -- The paper's M lines of T rows that begin at a line
 abbrev marksFrom : Tables → Line → List TradeRow → Text
@@ -96,40 +96,48 @@ module _ (t : Tables) (admitted : Admitted t) where
       ∙ ap (λ (line : Line). marksFrom t line rs) next)
       ∙ mark-first from r known (rw first at (inside 0 r here)) rs
 
-  -- ---- K and Z lines
+  -- ---- K and Z lines, of either listing
 
-  -- The K line of a class in a currency
-  position-held : (k : ℕ) (c : Currency) → Stands c (currencies (t .securities)) k → (i : ℕ) (row : paper.ClassRow) → Stands row (t .classes) i
-      → positionText (moneyAt (heldTables t) k) (heldTables t .classes) (heldCurrency t c) i ≡ classLine c (remainingIn t c) row
-  unfolding classLine
-  position-held k c money i row at =
-      let b = remainingIn t c in
-      ap₂ (λ (name : Currency) (h : ClassRow).
-      positionLine name (h .class) (position (b .long) (h .class)) (position (b .short) (h .class)) (getD (heldCurrency t c .margins) i 0))
-      (money-held k c money)
-      (stands-held 40 noClass heldClass (facts .few-classes) at noClass)
-      ∙ ap (positionLine c (row .class) (position (b .long) (row .class)) (position (b .short) (row .class)))
-      (stands-held 40 0 (marginOf b) (facts .few-classes) at 0)
+  module _ (listing : Listing) where
+    -- The K line of a class in a currency, where it is listed
+    position-held : (k : ℕ) (c : Currency) → Stands c (currencies (t .securities)) k → (i : ℕ) (row : paper.ClassRow) → Stands row (t .classes) i
+        → positionText listing (moneyAt (heldTables t) k) (heldTables t .classes) (heldCurrency t c) i
+        ≡ elim (isListed listing (remainingIn t c) row) [ true ↦ classLine c (remainingIn t c) row | false ↦ [] ]
+    unfolding classLine
+    position-held k c money i row at =
+        let b = remainingIn t c in
+        ap₂ (λ (h : ClassRow) (margin : Whole).
+        listedLine listing (moneyAt (heldTables t) k) (h .class) (position (b .long) (h .class)) (position (b .short) (h .class)) margin)
+        (stands-held 40 noClass heldClass (facts .few-classes) at noClass)
+        (stands-held 40 0 (marginOf b) (facts .few-classes) at 0)
+        ∙ ap (λ (name : Currency).
+        elim (isListed listing b row) [
+          | true ↦ positionLine name (row .class) (position (b .long) (row .class)) (position (b .short) (row .class)) (marginOf b row)
+          | false ↦ []
+        ])
+        (money-held k c money)
 
-  -- The lines of a currency
-  currency-held : (k : ℕ) (c : Currency) → Stands c (currencies (t .securities)) k
-      → currencyText (heldTables t) (heldFigures t) k ≡ currencyLines t (valuedIn t) c
-  unfolding currencyLines
-  currency-held k c at =
-      let f = heldCurrency t c in
-      ap (linesOf (moneyAt (heldTables t) k) (heldTables t .classes)) (stands-held 8 noCurrency (heldCurrency t) (currencies-few t admitted) at noFigures)
-      ∙ ap₂ (λ (ls : List Text) (name : Currency). joinedUp ls ++ totalLine name (f .mark) (f .initial) (f .total))
-      (ranks-made _ (classLine c (remainingIn t c)) (t .classes) (position-held k c at))
-      (money-held k c at)
+    -- The lines of a currency
+    currency-held : (k : ℕ) (c : Currency) → Stands c (currencies (t .securities)) k
+        → currencyText listing (heldTables t) (heldFigures t) k ≡ currencyLines listing t (valuedIn t) c
+    unfolding currencyLines
+    currency-held k c at =
+        let f = heldCurrency t c in
+        let b = remainingIn t c in
+        ap (linesOf listing (moneyAt (heldTables t) k) (heldTables t .classes)) (stands-held 8 noCurrency (heldCurrency t) (currencies-few t admitted) at noFigures)
+        ∙ ap₂ (λ (positions : Text) (name : Currency). positions ++ totalLine name (f .mark) (f .initial) (f .total))
+        (ap joinedUp (ranks-made _ (λ (row : paper.ClassRow). elim (isListed listing b row) [ true ↦ classLine c b row | false ↦ [] ]) (t .classes) (position-held k c at))
+        ∙ sym (joined-only (classLine c b) (isListed listing b) (t .classes)))
+        (money-held k c at)
 
-  -- The report's text of admitted tables is the paper's
-  pub text-held : reportText (heldTables t) (heldFigures t) ≡ reportOf t
-  unfolding reportOf
-  text-held =
-      let start : tradesLine t + 0 ≡ tradesLine t = omega arith in
-      ap₂ (λ (marks others : Text). marks ++ others)
-      (marks-held (trades-known t admitted) 0 (λ k r at. let same : 0 + k ≡ k = omega arith in rw same at) ∙ ap (λ (line : Line). marksFrom t line (t .trades)) start)
-      (ap joinedUp (ranks-made _ (currencyLines t (valuedIn t)) (currencies (t .securities)) currency-held))
+    -- The report's text of admitted tables is the paper's
+    pub text-held : reportText listing (heldTables t) (heldFigures t) ≡ reportOf listing t
+    unfolding reportOf
+    text-held =
+        let start : tradesLine t + 0 ≡ tradesLine t = omega arith in
+        ap₂ (λ (marks others : Text). marks ++ others)
+        (marks-held (trades-known t admitted) 0 (λ k r at. let same : 0 + k ≡ k = omega arith in rw same at) ∙ ap (λ (line : Line). marksFrom t line (t .trades)) start)
+        (ap joinedUp (ranks-made _ (currencyLines listing t (valuedIn t)) (currencies (t .securities)) currency-held))
 
   -- ---- it can be written
 

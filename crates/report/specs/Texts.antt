@@ -1,11 +1,13 @@
 -- The report's text, from the tables and the figures as the code holds them.
 use Prim.Native.Nat.{ℕ, _+_, _≤_, _<_, _^_}
-use mathlib.Core.Bool.{Bool, true, false}
+use mathlib.Core.Bool.{Bool, true, false, not, _&&_, _||_}
 use mathlib.Core.List.{[], _++_}
+use lib.Dec.{eqb}
 use lib.IntN.{pos, natAbs}
 use lib.ListN.{getD}
-use Rattle.paper.specs.Units.{Text, Line, SignedCents}
+use Rattle.paper.specs.Units.{Text, Line, Class, SignedCents, Whole}
 use Rattle.paper.specs.Lists.{joinedUp}
+use Rattle.paper.specs.Report.{Listing}
 use Rattle.tables.specs.Held.{noClass, noSecurity, noTrade}
 use Rattle.tables.specs.declared.Classes.{Classes}
 use Rattle.tables.specs.declared.Tables.{Tables}
@@ -34,30 +36,38 @@ markText t f i =
     let security = getD (t .securities .rows) (trade .security) noSecurity in
     marked (trade .margined) (firstLine t + i) (moneyAt t (security .currency)) (getD (f .marks) i (pos 0))
 
--- The K line of the C row at a place of its table, by the number of the currency
-abbrev pub positionText : ℕ → Classes → Currency → ℕ → Text
-positionText money cs c i =
+-- The K line of a class, by the number of the currency, in whole units; in a quiet report none where all three are zero
+abbrev pub listedLine : Listing → ℕ → Class → Whole → Whole → Whole → Text
+listedLine listing money class long short margin =
+    elim (listing || not (eqb long 0 && eqb short 0 && eqb margin 0)) [
+      | true ↦ positionLine (moneyText money) class long short margin
+      | false ↦ []
+    ]
+
+-- ... of the C row at a place of its table
+abbrev pub positionText : Listing → ℕ → Classes → Currency → ℕ → Text
+positionText listing money cs c i =
     let class = getD (cs .rows) i noClass .class in
-    positionLine (moneyText money) class (getD (c .long) class 0) (getD (c .short) class 0) (getD (c .margins) i 0)
+    listedLine listing money class (getD (c .long) class 0) (getD (c .short) class 0) (getD (c .margins) i 0)
 
 -- What stands past the figures of currencies
 abbrev pub noFigures : Currency
 noFigures = record { long = []; short = []; margins = []; mark = pos 0; initial = 0; total = 0 }
 
 -- The lines of a currency, by its number
-abbrev pub linesOf : ℕ → Classes → Currency → Text
-linesOf money cs c =
-    joinedUp (fromRank (positionText money cs c) (cs .count) 0) ++ totalLine (moneyText money) (c .mark) (c .initial) (c .total)
+abbrev pub linesOf : Listing → ℕ → Classes → Currency → Text
+linesOf listing money cs c =
+    joinedUp (fromRank (positionText listing money cs c) (cs .count) 0) ++ totalLine (moneyText money) (c .mark) (c .initial) (c .total)
 
 -- ... of a rank
-abbrev pub currencyText : Tables → Figures → ℕ → Text
-currencyText t f rank = linesOf (moneyAt t rank) (t .classes) (getD (f .currencies) rank noFigures)
+abbrev pub currencyText : Listing → Tables → Figures → ℕ → Text
+currencyText listing t f rank = linesOf listing (moneyAt t rank) (t .classes) (getD (f .currencies) rank noFigures)
 
 -- The whole text: M lines, then each currency's
-abbrev pub reportText : Tables → Figures → Text
-reportText t f =
+abbrev pub reportText : Listing → Tables → Figures → Text
+reportText listing t f =
     joinedUp (fromRank (markText t f) (t .trades .count) 0)
-    ++ joinedUp (fromRank (currencyText t f) (t .securities .currencies .count) 0)
+    ++ joinedUp (fromRank (currencyText listing t f) (t .securities .currencies .count) 0)
 
 -- Classes that have their places
 pub record Classed (cs : Classes) : Type 0 where

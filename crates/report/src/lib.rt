@@ -1,4 +1,5 @@
-// The report: the figures of a sheet as lines in the lent buffer, M lines first, then each currency's.
+// The report: the figures of a sheet as lines in the lent buffer, M lines first, then each currency's. A full one has a K line for
+// every class; a quiet one leaves out those of zeros.
 use lines::Place;
 use margin::Currency;
 use margin::Figures;
@@ -11,7 +12,7 @@ ghost use lib.ListN.{length};
 ghost use Rattle.paper.specs.Lists.{joinedUp};
 ghost use Rattle.margin.specs.Openings.{fromRank};
 ghost use Rattle.lines.specs.Written.{Wrote};
-ghost use Rattle.report.specs.Texts.{Writable, Classed, marked, markText, positionText, currencyText, reportText};
+ghost use Rattle.report.specs.Texts.{Writable, Classed, marked, markText, listedLine, positionText, currencyText, reportText};
 
 // The M line of a trade, where it is margined.
 fn put_mark(
@@ -64,30 +65,54 @@ fn mark_lines(report: &mut [u8], tables: Tables, figures: Figures) -> Place
     at
 }
 
+// The K line of a class; in a quiet report none where its long, short and margin are all zero.
+fn put_position(
+    report: &mut [u8],
+    at: Place,
+    full: bool, // or quiet
+    money: Money,
+    class: u64, // from 1
+    long: u64, // whole units
+    short: u64, // whole units
+    margin: u64, // whole units
+) -> Place
+    requires { ⌜ money < 79_507 ⌝ }
+    requires { ⌜ at + length (listedLine full money class long short margin) ≤ length (now report) ⌝ }
+    ensures { λ r. ⌜ Wrote (listedLine full money class long short margin) at (now (report .entry)) r (now (report .exit)) ⌝ }
+{
+    let zeros = (long == 0) & (short == 0) & (margin == 0);
+    if !full & zeros {
+        return at;
+    }
+    lines::position_line(report, at, money, class, long, short, margin)
+}
+
 // The K lines of a currency, by rising class.
 fn position_lines(
     report: &mut [u8],
     from: Place,
+    full: bool, // or quiet
     money: Money,
     classes: Classes,
     figures: Currency,
 ) -> Place
     requires { ⌜ (money < 79_507) × Classed classes ⌝ }
-    requires { ⌜ from + length (joinedUp (fromRank (positionText money classes figures) (classes .count) 0)) ≤ length (now report) ⌝ }
-    ensures { λ r. ⌜ Wrote (joinedUp (fromRank (positionText money classes figures) (classes .count) 0)) from (now (report .entry)) r (now (report .exit)) ⌝ }
+    requires { ⌜ from + length (joinedUp (fromRank (positionText full money classes figures) (classes .count) 0)) ≤ length (now report) ⌝ }
+    ensures { λ r. ⌜ Wrote (joinedUp (fromRank (positionText full money classes figures) (classes .count) 0)) from (now (report .entry)) r (now (report .exit)) ⌝ }
 {
     let rows = classes.rows;
     let long = figures.long; // whole units
     let short = figures.short; // whole units
     let margins = figures.margins; // whole units
-    let mut at = from;
+    let mut next = from;
     let mut i: usize = 0; // classes
     while i < classes.count {
         let row = rows[i];
         let class = row.class as usize;
-        at = lines::position_line(
+        next = put_position(
             report,
-            at,
+            next,
+            full,
             money,
             row.class,
             long[class],
@@ -96,14 +121,20 @@ fn position_lines(
         );
         i += 1;
     }
-    at
+    next
 }
 
 // The lines of all currencies, rising: K lines, then the Z line.
-fn currency_lines(report: &mut [u8], from: Place, tables: Tables, figures: Figures) -> Place
+fn currency_lines(
+    report: &mut [u8],
+    from: Place,
+    full: bool, // or quiet
+    tables: Tables,
+    figures: Figures,
+) -> Place
     requires { ⌜ Writable tables figures ⌝ }
-    requires { ⌜ from + length (joinedUp (fromRank (currencyText tables figures) (tables .securities .currencies .count) 0)) ≤ length (now report) ⌝ }
-    ensures { λ r. ⌜ Wrote (joinedUp (fromRank (currencyText tables figures) (tables .securities .currencies .count) 0)) from (now (report .entry)) r (now (report .exit)) ⌝ }
+    requires { ⌜ from + length (joinedUp (fromRank (currencyText full tables figures) (tables .securities .currencies .count) 0)) ≤ length (now report) ⌝ }
+    ensures { λ r. ⌜ Wrote (joinedUp (fromRank (currencyText full tables figures) (tables .securities .currencies .count) 0)) from (now (report .entry)) r (now (report .exit)) ⌝ }
 {
     let classes = tables.classes;
     let known = tables.securities.currencies;
@@ -114,7 +145,7 @@ fn currency_lines(report: &mut [u8], from: Place, tables: Tables, figures: Figur
     while r < known.count {
         let currency = currencies[r];
         let money = numbers[r];
-        let behind = position_lines(report, at, money, classes, currency);
+        let behind = position_lines(report, at, full, money, classes, currency);
         at = lines::total_line(
             report,
             behind,
@@ -129,11 +160,16 @@ fn currency_lines(report: &mut [u8], from: Place, tables: Tables, figures: Figur
 }
 
 // The whole report, from the buffer's start; gives its length.
-pub fn write(report: &mut [u8], tables: Tables, figures: Figures) -> Place
+pub fn write(
+    report: &mut [u8],
+    full: bool, // or quiet
+    tables: Tables,
+    figures: Figures,
+) -> Place
     requires { ⌜ Writable tables figures ⌝ }
-    requires { ⌜ length (reportText tables figures) ≤ length (now report) ⌝ }
-    ensures { λ r. ⌜ Wrote (reportText tables figures) 0 (now (report .entry)) r (now (report .exit)) ⌝ }
+    requires { ⌜ length (reportText full tables figures) ≤ length (now report) ⌝ }
+    ensures { λ r. ⌜ Wrote (reportText full tables figures) 0 (now (report .entry)) r (now (report .exit)) ⌝ }
 {
     let at = mark_lines(report, tables, figures);
-    currency_lines(report, at, tables, figures)
+    currency_lines(report, at, full, tables, figures)
 }

@@ -1,8 +1,9 @@
 // What the forecast prints: the text of the kit's answer, or `N;refusal;line` alone.
+ghost use mathlib.Core.Path.{_≡_};
 ghost use Prim.Native.Nat.{_/_, _≤_, _<_};
 ghost use lib.ListN.{length};
 ghost use Rattle.io.specs.Counts.{Counts};
-ghost use Rattle.paper.specs.Answer.{answer, explained};
+ghost use Rattle.paper.specs.Answer.{answerBy, explained, kit};
 ghost use Rattle.lines.specs.Written.{Wrote};
 ghost use Rattle.shown.specs.Shown.{Told, shownText};
 
@@ -20,13 +21,31 @@ fn tell(
     lines::refusal_line(out, 0, number / 65536, number % 65536)
 }
 
+// The number that the kit gives for a sheet, by the entry of the listing.
+fn ask(
+    sheet: &[u8],
+    out: &mut [u8],
+    full: bool, // or quiet
+) -> u64
+    ensures { λ r. ⌜ (r, now (out .exit)) ≡ kit full (now (sheet .entry)) (now (out .entry)) ⌝ }
+{
+    if full {
+        return kit::brm_margin_full(sheet, out);
+    }
+    kit::brm_margin(sheet, out)
+}
+
 // The text of the kit's answer to a sheet, at the start of the lent bytes; gives its length.
-pub fn show(sheet: &[u8], out: &mut [u8]) -> usize
+pub fn show(
+    sheet: &[u8],
+    out: &mut [u8],
+    full: bool, // or quiet
+) -> usize
     requires { ⌜ 32_768 ≤ length (now out) ⌝ }
-    ensures { λ r. ⌜ Wrote (shownText (answer (length (now (out .entry))) (now (sheet .entry)))) 0 (now (out .entry)) r (now (out .exit)) ⌝ }
+    ensures { λ r. ⌜ Wrote (shownText (answerBy full (length (now (out .entry))) (now (sheet .entry)))) 0 (now (out .entry)) r (now (out .exit)) ⌝ }
     ensures { λ r. ⌜ Counts r (now (out .exit)) ⌝ }
 {
-    let number = kit::brm_margin(sheet, out);
+    let number = ask(sheet, out, full);
     tell(number, out)
 }
 

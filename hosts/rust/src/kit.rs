@@ -5,6 +5,7 @@ mod library {
     // A slice passes as its pointer and then its length in bytes.
     extern "C" {
         pub fn brm_margin(sheet: *const u8, sheet_len: usize, report: *mut u8, report_len: usize) -> u64;
+        pub fn brm_margin_full(sheet: *const u8, sheet_len: usize, report: *mut u8, report_len: usize) -> u64;
         pub fn brm_explain(
             sheet: *const u8,
             sheet_len: usize,
@@ -17,10 +18,17 @@ mod library {
     }
 }
 
-/// The report's length, with the report at the start of the buffer; or 65,536 × refusal + line.
+/// The quiet report's length, with the report at the start of the buffer; or 65,536 × refusal + line. K lines of zeros
+/// are left out.
 pub fn brm_margin(sheet: &[u8], report: &mut [u8]) -> u64 {
     // SAFETY: both pointers are good for their lengths, and a shared and an exclusive slice do not overlap.
     unsafe { library::brm_margin(sheet.as_ptr(), sheet.len(), report.as_mut_ptr(), report.len()) }
+}
+
+/// The same with the full report, which has a K line for every class.
+pub fn brm_margin_full(sheet: &[u8], report: &mut [u8]) -> u64 {
+    // SAFETY: both pointers are good for their lengths, and a shared and an exclusive slice do not overlap.
+    unsafe { library::brm_margin_full(sheet.as_ptr(), sheet.len(), report.as_mut_ptr(), report.len()) }
 }
 
 /// Why the margin of a class in a currency is what it is: the text's length, with the text at the start of the buffer;

@@ -1,5 +1,5 @@
 //! Document 01 in plain safe Rust, written for speed: the kit is held against its answers and against its time. And the
-//! question of document 02, c.
+//! question of document 02, c, and its quiet report, e.
 //!
 //! One pass over the sheet fills tables of fixed size, the figures are worked out from the tables, and only then is
 //! the report written; nothing is allocated. The three steps are public so that each can be timed.
@@ -24,16 +24,26 @@ pub use write::write;
 /// A buffer of this many bytes holds the report of any sheet.
 pub const LEAST_ROOM: usize = 32_768;
 
-/// The same entry as the kit's: the report's length, or 65,536 × refusal + line and the buffer untouched.
+/// The same entry as the kit's: the quiet report's length, or 65,536 × refusal + line and the buffer untouched.
 pub fn brm_margin(sheet: &[u8], report: &mut [u8]) -> u64 {
+    margin(sheet, false, report)
+}
+
+/// The kit's second entry: the same with the full report.
+pub fn brm_margin_full(sheet: &[u8], report: &mut [u8]) -> u64 {
+    margin(sheet, true, report)
+}
+
+/// The full report, or the quiet one.
+fn margin(sheet: &[u8], full: bool, report: &mut [u8]) -> u64 {
     let mut tables = Tables::EMPTY;
     match read_with_room(sheet, report.len(), &mut tables) {
         Err(refusal) => refusal.answer(),
-        Ok(()) => write(&tables, &figures(&tables), report) as u64,
+        Ok(()) => write(&tables, &figures(&tables), full, report) as u64,
     }
 }
 
-/// The kit's second entry: the explanation's length, or 65,536 × refusal + line and the buffer untouched.
+/// The kit's third entry: the explanation's length, or 65,536 × refusal + line and the buffer untouched.
 pub fn brm_explain(sheet: &[u8], currency: &[u8], class: u64, report: &mut [u8]) -> u64 {
     let mut tables = Tables::EMPTY;
     let read = read_with_room(sheet, report.len(), &mut tables);

@@ -1,5 +1,5 @@
-//! Both implementations on one case, its report and its explanation: the same number back, and every byte of the buffer
-//! the same.
+//! Both implementations on one case, its quiet report, its full one and its explanation: the same number back, and every
+//! byte of the buffer the same. And the quiet report is the full one without its K lines of zeros, by the texts alone.
 
 use crate::sheets::{Aim, Case};
 use crate::{kit, plain};
@@ -17,7 +17,8 @@ pub struct Together {
 /// A text's length in bytes, or 65,536 × refusal + line.
 #[derive(Clone, Copy, Debug, PartialEq, Eq)]
 pub struct Answers {
-    pub report: u64,
+    pub report: u64, // quiet
+    pub full: u64,
     pub explanation: u64,
 }
 
@@ -25,6 +26,15 @@ impl Together {
     /// The answers both gave, or what is wrong with one.
     pub fn run(&mut self, case: &Case) -> Result<Answers, String> {
         let report = self.hold(case, case.aim, kit::brm_margin, plain::brm_margin)?;
+        let quiet = self.text(report).to_vec();
+        let full = self.hold(case, case.aim, kit::brm_margin_full, plain::brm_margin_full);
+        let full = full.map_err(|wrong| format!("with the full list {wrong}"))?;
+        if report.max(full) >= 65_536 && report != full {
+            return Err(format!("both answer {}, and with the full list {}", name(report), name(full)));
+        }
+        if quiet != without_zeros(self.text(full)) {
+            return Err("the quiet report is not the full one without its K lines of zeros".to_string());
+        }
         let asked = &case.question;
         let kit = |sheet: &[u8], report: &mut [u8]| kit::brm_explain(sheet, &asked.currency, asked.class, report);
         let plain = |sheet: &[u8], report: &mut [u8]| plain::brm_explain(sheet, &asked.currency, asked.class, report);
@@ -35,10 +45,16 @@ impl Together {
         if !fits {
             return Err(format!("both answer {}, and to the question {}", name(report), name(explanation)));
         }
-        Ok(Answers { report, explanation })
+        Ok(Answers { report, full, explanation })
     }
 
-    /// The answer both entries gave, or what is wrong with it.
+    /// The text of the last call, which gave that answer; none on a refusal.
+    fn text(&self, answer: u64) -> &[u8] {
+        let length = if answer < 65_536 { answer as usize } else { 0 }; // bytes
+        &self.kit[GUARD..GUARD + length]
+    }
+
+    /// The answer that kit and plain gave, or what is wrong with it.
     fn hold(&mut self, case: &Case, aim: Aim, kit: impl Entry, plain: impl Entry) -> Result<u64, String> {
         let shift = case.sheet.len();
         let kit = call(kit, &case.sheet, case.room, &mut self.kit, shift);
@@ -64,6 +80,14 @@ impl Together {
             _ => Ok(plain),
         }
     }
+}
+
+/// A full report without the K lines that end in three zeros: long, short and margin. It goes by the lines alone, apart
+/// from both implementations.
+fn without_zeros(full: &[u8]) -> Vec<u8> {
+    let lines = full.split_inclusive(|&byte| byte == b'\n');
+    let kept = lines.filter(|line| !(line.starts_with(b"K;") && line.ends_with(b";0;0;0\n")));
+    kept.flatten().copied().collect()
 }
 
 /// A sheet and a lent buffer to an answer.
@@ -111,21 +135,23 @@ impl<const N: usize> std::fmt::Display for Counts<N> {
     }
 }
 
-/// How often each answer came, to sheets and to questions about them.
+/// How often each answer came, to sheets and to questions about them. Quiet and full, a sheet is refused alike.
 pub struct Tally {
     reports: Counts<13>,
+    shortened: u64, // quiet reports with fewer lines than the full ones
     explanations: Counts<14>,
 }
 
 impl Default for Tally {
     fn default() -> Self {
-        Tally { reports: Counts([0; 13]), explanations: Counts([0; 14]) }
+        Tally { reports: Counts([0; 13]), shortened: 0, explanations: Counts([0; 14]) }
     }
 }
 
 impl Tally {
     pub fn add(&mut self, answers: Answers) {
         self.reports.add(answers.report);
+        self.shortened += (answers.report < answers.full) as u64;
         self.explanations.add(answers.explanation);
     }
 
@@ -146,6 +172,8 @@ impl Tally {
 
 impl std::fmt::Display for Tally {
     fn fmt(&self, to: &mut std::fmt::Formatter) -> std::fmt::Result {
-        write!(to, "{} sheets: {}\ntheir questions: {}", self.total(), self.reports, self.explanations)
+        writeln!(to, "{} sheets: {}", self.total(), self.reports)?;
+        writeln!(to, "quiet reports that leave lines out: {}", self.shortened)?;
+        write!(to, "their questions: {}", self.explanations)
     }
 }

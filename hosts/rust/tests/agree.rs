@@ -35,8 +35,8 @@ fn generated_sheets() {
     }
 }
 
-/// The kit's explanations against its own reports: the nets that are listed, less what is listed as taken, are what
-/// remains in the K line, and the larger of it is the side that set the margin.
+/// The kit's explanations against its own full reports, which have a K line for every class: the nets that are listed,
+/// less what is listed as taken, are what remains in the K line, and the larger of it is the side that set the margin.
 #[test]
 fn explanations_lead_to_the_report() {
     const SEED: u64 = 20_190_612;
@@ -44,7 +44,7 @@ fn explanations_lead_to_the_report() {
     let mut explained = 0; // questions
     for number in 0..SHEETS {
         let Case { sheet, question, .. } = case(SEED, number);
-        let report = text(|buffer| kit::brm_margin(&sheet, buffer));
+        let report = text(|buffer| kit::brm_margin_full(&sheet, buffer));
         let explanation = text(|buffer| kit::brm_explain(&sheet, &question.currency, question.class, buffer));
         let (Some(report), Some(explanation)) = (report, explanation) else { continue };
         let [long, short] = remaining(&explanation);
@@ -95,11 +95,12 @@ fn empty_slices() {
         let question = Question { currency: Vec::new(), class: 0 };
         together.run(&Case { sheet: sheet.to_vec(), question, room, aim: Aim::Open, question_aim: Aim::Open })
     };
-    let both = |answer: u64| Ok(Answers { report: answer, explanation: answer });
-    assert_eq!(answer(b"", 0), both(65_536));
-    assert_eq!(answer(b"", 32_768), both(3 * 65_536 + 1));
-    assert_eq!(answer(b"BRM;1\nD;20190612\n", 32_768), Ok(Answers { report: 0, explanation: 13 * 65_536 }));
+    let all = |answer: u64| Ok(Answers { report: answer, full: answer, explanation: answer });
+    assert_eq!(answer(b"", 0), all(65_536));
+    assert_eq!(answer(b"", 32_768), all(3 * 65_536 + 1));
+    assert_eq!(answer(b"BRM;1\nD;20190612\n", 32_768), Ok(Answers { report: 0, full: 0, explanation: 13 * 65_536 }));
     assert_eq!(kit::brm_margin(&[], &mut []), 65_536);
+    assert_eq!(kit::brm_margin_full(&[], &mut []), 65_536);
     assert_eq!(kit::brm_explain(&[], &[], 0, &mut []), 65_536);
 }
 
@@ -109,11 +110,15 @@ fn a_thread_with_256_kilobytes_of_stack() {
     let calls = || {
         let mut report = vec![0; 32_768];
         let sheets = (0..16).map(|number| largest(1, number));
-        let both = sheets.flat_map(|sheet| {
+        let all = sheets.flat_map(|sheet| {
             let Question { currency, class } = about_security(&sheet, 0).expect("a security with its class");
-            [kit::brm_margin(&sheet, &mut report), kit::brm_explain(&sheet, &currency, class, &mut report)]
+            [
+                kit::brm_margin(&sheet, &mut report),
+                kit::brm_margin_full(&sheet, &mut report),
+                kit::brm_explain(&sheet, &currency, class, &mut report),
+            ]
         });
-        both.collect::<Vec<u64>>()
+        all.collect::<Vec<u64>>()
     };
     let thread = std::thread::Builder::new().stack_size(256 * 1024).spawn(calls).expect("a thread");
     let lengths = thread.join().expect("the calls come back"); // bytes

@@ -1,9 +1,14 @@
 //! Every case of some folders, on the kit and on the plain implementation: NAME.sheet, the answer in NAME.expect, and
 //! the buffer's length in NAME.room where it is not 32,768. A case with NAME.ask, `currency;class`, is a question and
-//! its answer an explanation. The folders are ../../tests/cases and ../../tests/questions, or the one that CASES names.
+//! its answer an explanation. The folders are ../../tests/cases and ../../tests/questions: there NAME.expect has the
+//! quiet report, and NAME.full the full one where it is another.
+//!
+//! CASES names one folder in place of these. LISTING, quiet or full, says which report its NAME.expect has, and the
+//! other one is not asked for; it is quiet if not said.
 
 use gronnhyl_host::sheets::Question;
 use gronnhyl_host::{kit, plain};
+use std::env::VarError;
 use std::fs;
 use std::path::{Path, PathBuf};
 
@@ -15,25 +20,35 @@ fn folders() -> Vec<PathBuf> {
     }
 }
 
-/// Both entries of an implementation.
+/// What is asked about a sheet.
+#[derive(Debug)]
+enum Asked {
+    Quiet,
+    Full,
+    Why(Question),
+}
+
+/// The entries of an implementation.
 struct Entries {
-    margin: fn(&[u8], &mut [u8]) -> u64,
+    quiet: fn(&[u8], &mut [u8]) -> u64,
+    full: fn(&[u8], &mut [u8]) -> u64,
     explain: fn(&[u8], &[u8], u64, &mut [u8]) -> u64,
 }
 
 impl Entries {
-    fn call(&self, sheet: &[u8], question: Option<&Question>, report: &mut [u8]) -> u64 {
-        match question {
-            None => (self.margin)(sheet, report),
-            Some(asked) => (self.explain)(sheet, &asked.currency, asked.class, report),
+    fn call(&self, sheet: &[u8], asked: &Asked, report: &mut [u8]) -> u64 {
+        match asked {
+            Asked::Quiet => (self.quiet)(sheet, report),
+            Asked::Full => (self.full)(sheet, report),
+            Asked::Why(question) => (self.explain)(sheet, &question.currency, question.class, report),
         }
     }
 
     /// The answer as the forecast program prints it, if the rest of the buffer stayed as it was.
-    fn answer(&self, sheet: &[u8], question: Option<&Question>, room: usize) -> Vec<u8> {
+    fn answer(&self, sheet: &[u8], asked: &Asked, room: usize) -> Vec<u8> {
         const UNTOUCHED: u8 = 0xA5;
         let mut report = vec![UNTOUCHED; room];
-        let answer = self.call(sheet, question, &mut report);
+        let answer = self.call(sheet, asked, &mut report);
         let (refusal, rest) = (answer / 65_536, (answer % 65_536) as usize);
         let length = if refusal == 0 { rest } else { 0 };
         if report[length..].iter().any(|&byte| byte != UNTOUCHED) {
@@ -54,6 +69,27 @@ fn question(sheet: &Path) -> Option<Question> {
     Some(Question { currency: text[..at].to_vec(), class: class.trim_end().parse().expect("a class is a number") })
 }
 
+/// The report in every NAME.expect of the folder that CASES names, if it names one.
+fn listing() -> Option<Asked> {
+    std::env::var_os("CASES")?;
+    match std::env::var("LISTING").as_deref() {
+        Ok("quiet") | Err(VarError::NotPresent) => Some(Asked::Quiet),
+        Ok("full") => Some(Asked::Full),
+        other => panic!("LISTING is quiet or full: {other:?}"),
+    }
+}
+
+/// What is asked about the sheet of a case, each with the file that has the answer.
+fn asked(sheet: &Path) -> Vec<(Asked, PathBuf)> {
+    let [expect, full] = ["expect", "full"].map(|ending| sheet.with_extension(ending));
+    match (question(sheet), listing()) {
+        (Some(question), _) => vec![(Asked::Why(question), expect)],
+        (None, Some(listing)) => vec![(listing, expect)],
+        (None, None) if full.exists() => vec![(Asked::Quiet, expect), (Asked::Full, full)],
+        (None, None) => vec![(Asked::Quiet, expect.clone()), (Asked::Full, expect)],
+    }
+}
+
 fn sheets(folder: &Path) -> Vec<PathBuf> {
     let mut sheets: Vec<PathBuf> = fs::read_dir(folder)
         .unwrap_or_else(|error| panic!("no cases in {}: {error}", folder.display()))
@@ -67,33 +103,34 @@ fn sheets(folder: &Path) -> Vec<PathBuf> {
 
 fn run(entries: Entries) {
     let sheets: Vec<PathBuf> = folders().iter().flat_map(|folder| sheets(folder)).collect();
-    let mut differ = Vec::new();
-    let mut questions = 0;
+    let (mut same, mut differ, mut questions) = (0, 0, 0); // answers
     for path in &sheets {
         let sheet = fs::read(path).expect("the sheet can be read");
-        let expect = fs::read(path.with_extension("expect")).expect("each sheet has its answer");
         let room = fs::read_to_string(path.with_extension("room"))
             .map_or(plain::LEAST_ROOM, |text| text.trim().parse().expect("a room is a number"));
-        let question = question(path);
-        questions += question.is_some() as usize;
-        let got = entries.answer(&sheet, question.as_ref(), room);
-        if got != expect {
+        for (asked, file) in asked(path) {
+            let expect = fs::read(&file).expect("each sheet has its answer");
+            let got = entries.answer(&sheet, &asked, room);
+            questions += matches!(asked, Asked::Why(_)) as usize;
+            if got == expect {
+                same += 1;
+                continue;
+            }
             let text = |bytes: &[u8]| String::from_utf8_lossy(bytes).into_owned();
-            eprintln!("{}\nexpected:\n{}got:\n{}", path.display(), text(&expect), text(&got));
-            differ.push(path);
+            eprintln!("{}, {asked:?}\nexpected:\n{}got:\n{}", file.display(), text(&expect), text(&got));
+            differ += 1;
         }
     }
-    let as_expected = sheets.len() - differ.len();
-    println!("{as_expected} cases as expected, {} differ; {questions} are questions", differ.len());
-    assert!(differ.is_empty(), "{} of {} cases differ", differ.len(), sheets.len());
+    println!("{} cases: {same} answers as expected, {differ} differ; {questions} are to questions", sheets.len());
+    assert_eq!(differ, 0, "answers differ");
 }
 
 #[test]
 fn kit_answers_as_expected() {
-    run(Entries { margin: kit::brm_margin, explain: kit::brm_explain });
+    run(Entries { quiet: kit::brm_margin, full: kit::brm_margin_full, explain: kit::brm_explain });
 }
 
 #[test]
 fn plain_answers_as_expected() {
-    run(Entries { margin: plain::brm_margin, explain: plain::brm_explain });
+    run(Entries { quiet: plain::brm_margin, full: plain::brm_margin_full, explain: plain::brm_explain });
 }

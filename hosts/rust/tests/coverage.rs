@@ -81,7 +81,7 @@ fn the_generator_reaches_everything() {
     let mut report = vec![0; 100_000];
     for number in 0..SHEETS {
         let case = case(SEED, number);
-        let answer = plain::brm_margin(&case.sheet, &mut report[..case.room]);
+        let answer = plain::brm_margin_full(&case.sheet, &mut report[..case.room]);
         if answer >= 65_536 {
             let (refusal, line) = (answer / 65_536, answer % 65_536);
             wrong_question(&case, refusal, &mut seen);
@@ -95,6 +95,7 @@ fn the_generator_reaches_everything() {
             }
             continue;
         }
+        zeros(&report[..answer as usize], &mut seen);
         let mut tables = Tables::EMPTY;
         assert!(plain::read(&case.sheet, &mut tables).is_ok());
         let nets = figures(&tables, &mut seen); // cents
@@ -155,6 +156,7 @@ fn figures(tables: &Tables, seen: &mut Seen) -> Vec<i64> {
             let side = if net < 0 { &mut short } else { &mut long };
             side[security.class as usize] += net.unsigned_abs();
         }
+        let opening: Vec<(u64, u64)> = long.iter().copied().zip(short.iter().copied()).collect(); // whole units
         for row in &tables.offsets[..tables.offset_count] {
             let (one, two) = (row.first as usize, row.second as usize);
             let pairs = if one == two { vec![(one, one)] } else { vec![(one, two), (two, one)] };
@@ -176,6 +178,12 @@ fn figures(tables: &Tables, seen: &mut Seen) -> Vec<i64> {
             seen.note("both sides remain, long larger", long > short && short > 0);
             seen.note("both sides remain, short larger", short > long && long > 0);
         }
+        for ((opening, &long), &short) in opening.into_iter().zip(&long).zip(&short) {
+            let nothing_left = long == 0 && short == 0;
+            seen.note("zeros after offsetting both sides away", nothing_left && opening.0 > 0 && opening.1 > 0);
+            seen.note("zeros after offsetting the long away", nothing_left && opening.0 > 0 && opening.1 == 0);
+            seen.note("zeros after offsetting the short away", nothing_left && opening.0 == 0 && opening.1 > 0);
+        }
         let figures = &plain::figures(tables).currencies[currency];
         seen.note("a total of zero by its floor", figures.total == 0 && figures.mark > 100 * figures.initial as i64);
         seen.note("a total above zero", figures.total > 0);
@@ -184,6 +192,51 @@ fn figures(tables: &Tables, seen: &mut Seen) -> Vec<i64> {
     seen.note("eight currencies", tables.currency_count == 8);
     seen.note("500 margined trades", tables.trade_count == 500);
     nets
+}
+
+/// Where K lines of zeros stand in a full report, and what looks like one and is none. The quiet report lacks the former
+/// alone.
+fn zeros(full: &[u8], seen: &mut Seen) {
+    let full = std::str::from_utf8(full).expect("a report is plain text");
+    let lines: Vec<Vec<&str>> = full.lines().map(|line| line.split(';').collect()).collect();
+    let is_zeros = |line: &Vec<&str>| line[0] == "K" && line[3..] == ["0"; 3];
+    for line in lines.iter().filter(|line| line[0] == "K") {
+        let [long, short, margin] = [3, 4, 5].map(|at| line[at] == "0"); // whether it is 0
+        seen.note("a K line of zeros", is_zeros(line));
+        seen.note("a K line with a long and a margin of 0", !long && short && margin);
+        seen.note("a K line with a short and a margin of 0", long && !short && margin);
+        seen.note("a K line with both sides and a margin of 0", !long && !short && margin);
+    }
+    for block in lines.split_inclusive(|line| line[0] == "Z") {
+        let Some((total, classes)) = block.split_last() else { continue };
+        let classes: Vec<bool> = classes.iter().filter(|line| line[0] == "K").map(is_zeros).collect();
+        currency_zeros(&classes, total[2..] == ["0"; 3], seen);
+    }
+    let classes = lines.iter().filter(|line| line[0] == "K").count();
+    let left_out = lines.iter().filter(|line| is_zeros(line)).count();
+    seen.note("a report with K lines and none of zeros", classes > 0 && left_out == 0);
+    seen.note("a quiet report without K lines, and not a full one", classes > 0 && left_out == classes);
+    seen.note("a report without lines", lines.is_empty());
+}
+
+/// The K lines of one currency, by whether they are of zeros, and whether its Z line is.
+fn currency_zeros(classes: &[bool], total: bool, seen: &mut Seen) {
+    let (all, any) = (classes.iter().all(|&zeros| zeros), classes.contains(&true));
+    let follows = |first: bool, second: bool| classes.windows(2).any(|pair| pair == [first, second]);
+    seen.note("zeros in the first class of a currency, and not in all", !all && classes.first() == Some(&true));
+    seen.note("zeros in the last class of a currency, and not in all", !all && classes.last() == Some(&true));
+    seen.note("zeros in all classes of a currency", all);
+    seen.note("zeros in no class of a currency", !any);
+    seen.note("zeros in two neighbouring classes", follows(true, true));
+    seen.note("zeros in the last class behind one with something", classes.ends_with(&[false, true]));
+    seen.note("a class with something behind one of zeros", follows(true, false));
+    seen.note(
+        "zeros between two classes with something",
+        classes.windows(3).any(|three| three == [false, true, false]),
+    );
+    seen.note("a Z line of zeros", total);
+    seen.note("a Z line of zeros behind a class with something", total && !all);
+    seen.note("zeros in all classes of a currency whose Z line has something", all && !total);
 }
 
 /// An explanation by the fields of its lines, and what it was given for.

@@ -6,10 +6,10 @@ use Rattle.figures.proofs.main.Statement.{statement}
 use Rattle.figures.proofs.main.Tie as tie
 
 abbrev Inv-loop : tie.InvT-loop
-Inv-loop count pair₀ pair = pair ≤ 1000
+Inv-loop count case₀ case = case ≤ 1000
 
 abbrev μ-loop : tie.MeasureT-loop
-μ-loop count pair₀ pair = 1000 - pair
+μ-loop count case₀ case = 1000 - case
 
 pub main-spec : {M : Type 1} → statement M
 main-spec =
@@ -23,8 +23,7 @@ main-spec =
     (λ c. omega arith)
     (λ c. omega arith)
     (λ c. omega arith)
-    (λ c. omega arith)
-    (λ c κs. search needs)
+    (λ c κs. omega arith)
     (λ c. omega arith)
     (λ c. omega arith)
     (λ c. omega arith)

@@ -17,11 +17,11 @@ use Rattle.report.proofs.currency_lines.Statement.{statement}
 use Rattle.report.proofs.currency_lines.Tie as tie
 
 abbrev Inv-loop : tie.InvT-loop
-Inv-loop report₀ from classes known numbers currencies at₀ r₀ report at r =
-    (r ≤ known .count) × Wrote (texts (λ rank. linesOf (getD numbers rank 0) classes (getD currencies rank noFigures)) r) from report₀ at report
+Inv-loop report₀ from full classes known numbers currencies at₀ r₀ report at r =
+    (r ≤ known .count) × Wrote (texts (λ rank. linesOf full (getD numbers rank 0) classes (getD currencies rank noFigures)) r) from report₀ at report
 
 abbrev μ-loop : tie.MeasureT-loop
-μ-loop report₀ from classes known numbers currencies at₀ r₀ report at r = known .count - r
+μ-loop report₀ from full classes known numbers currencies at₀ r₀ report at r = known .count - r
 
 -- Where the function began, from the loop
 abbrev begin : tie.At-loop Inv-loop μ-loop → tie.Start Inv-loop μ-loop
@@ -29,7 +29,7 @@ begin l = l .before .before .before .before .before .before
 
 -- The text of each currency, and how many they are, by the arguments
 abbrev text : tie.Start Inv-loop μ-loop → ℕ → Text
-text s = currencyText (s .args .tables) (s .args .figures)
+text s = currencyText (s .args .full) (s .args .tables) (s .args .figures)
 
 abbrev many : tie.Start Inv-loop μ-loop → ℕ
 many s = s .args .tables .securities .currencies .count
@@ -42,7 +42,7 @@ abbrev money : tie.At-loop Inv-loop μ-loop → ℕ
 money l = moneyAt (begin l .args .tables) (l .loop .r)
 
 both : (l : tie.At-loop Inv-loop μ-loop) → let c = held l in let classes = begin l .args .tables .classes in
-    Parts (text (begin l) (l .loop .r)) (texts (positionText (money l) classes c) (classes .count)) (totalLine (moneyText (money l)) (c .mark) (c .initial) (c .total))
+    Parts (text (begin l) (l .loop .r)) (texts (positionText (begin l .args .full) (money l) classes c) (classes .count)) (totalLine (moneyText (money l)) (c .mark) (c .initial) (c .total))
 both l = parts _ _
 
 -- The turns are at most eight

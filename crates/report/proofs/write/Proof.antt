@@ -10,12 +10,12 @@ use Rattle.report.proofs.write.Statement.{statement}
 use Rattle.report.proofs.write.Tie as tie
 
 -- The M lines, and the lines of the currencies
-both : (s : tie.Start) → let t = s .args .tables in let f = s .args .figures in
-    Parts (reportText t f) (texts (markText t f) (t .trades .count)) (texts (currencyText t f) (t .securities .currencies .count))
+both : (s : tie.Start) → let full = s .args .full in let t = s .args .tables in let f = s .args .figures in
+    Parts (reportText full t f) (texts (markText t f) (t .trades .count)) (texts (currencyText full t f) (t .securities .currencies .count))
 both s = parts _ _
 
 -- They fit
-all-fit : (s : tie.Start) → 0 + length (reportText (s .args .tables) (s .args .figures)) ≤ length (s .args .report .now)
+all-fit : (s : tie.Start) → 0 + length (reportText (s .args .full) (s .args .tables) (s .args .figures)) ≤ length (s .args .report .now)
 all-fit s = omega (arith, s .pre .1)
 
 mark-lines-requires : tie.Need-mark-lines-requires

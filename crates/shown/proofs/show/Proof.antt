@@ -6,7 +6,7 @@ use borrow.Author.Needs.{needs}
 use lib.ListN.{length}
 use Rattle.paper.specs.Units.{Text}
 use Rattle.paper.specs.Report.{reportOf}
-use Rattle.paper.specs.Answer.{Answer, answer, accepted, handedBack}
+use Rattle.paper.specs.Answer.{Answer, answerBy, accepted, handedBack}
 use Rattle.paper.proofs.Lengths.{report-fits}
 use Rattle.paper.proofs.Demands.{gives-answer, goes-on}
 use Rattle.paper.specs.Demands.{IsAnswer}
@@ -17,22 +17,22 @@ use Rattle.shown.proofs.show.Tie as tie
 
 -- The kit's answer
 abbrev answered : tie.Start → Answer
-answered s = answer (length (s .args .out .now)) (s .args .sheet .now)
+answered s = answerBy (s .args .full) (length (s .args .out .now)) (s .args .sheet .now)
 
 is-answered : (s : tie.Start) → IsAnswer 13 (answered s)
-is-answered s = goes-on 13 (omega arith) (length (s .args .out .now)) (s .args .sheet .now) (λ t. accepted (reportOf t)) report-fits
+is-answered s = goes-on 13 (omega arith) (length (s .args .out .now)) (s .args .sheet .now) (λ t. accepted (reportOf (s .args .full) t)) (report-fits (s .args .full))
 
 -- Its text fits the lent bytes
 fits : (s : tie.Start) → length (shownText (answered s)) ≤ length (s .args .out .now)
 fits s = omega (arith, shown-fits (answered s) (is-answered s), s .pre)
 
--- Where the function began, from where the kit was called
-abbrev begin : tie.After-brm-margin → tie.Start
+-- Where the function began, from where the kit was asked
+abbrev begin : tie.After-ask → tie.Start
 begin k = k .before .before .before .before
 
 -- The number and the bytes are the answer's
-given : (k : tie.After-brm-margin) → _≡_ {A = ℕ × Text} (k .brm-margin .result, k .brm-margin .last .1 .0) (handedBack (answered (begin k)) (begin k .args .out .now))
-given k = k .brm-margin .ensures ∙ gives-answer (begin k .args .sheet .now) (begin k .args .out .now) (answered (begin k)) refl
+given : (k : tie.After-ask) → _≡_ {A = ℕ × Text} (k .ask .result, k .ask .last .1 .0) (handedBack (answered (begin k)) (begin k .args .out .now))
+given k = k .ask .ensures ∙ gives-answer (begin k .args .full) (begin k .args .sheet .now) (begin k .args .out .now) (answered (begin k)) refl
 
 tell-requires : tie.Need-tell-requires
 tell-requires c κs =

@@ -1,9 +1,10 @@
 //! The plain implementation's answers to generated sheets and to a question about each, for a host that is not written
 //! in Rust to be held to: `cargo run --release --bin answers -- SHEETS [SEED] >FILE`.
 //!
-//! The file has the number of sheets. Then, for each, six numbers: the sheet's length, the room lent for an answer, the
-//! answer to the sheet, the length of the question's currency, its class, the answer to it. Then bytes: the sheet, its
-//! report where there is one, the currency, the explanation where there is one. Numbers have 8 bytes, the lowest first.
+//! The file has the number of sheets. Then, for each, seven numbers: the sheet's length, the room lent for an answer, the
+//! answer to the sheet, the answer with the full list, the length of the question's currency, its class, the answer to
+//! it. Then bytes: the sheet, its quiet report and its full one where there are reports, the currency, the explanation
+//! where there is one. Numbers have 8 bytes, the lowest first.
 
 use gronnhyl_host::asked::Asked;
 use gronnhyl_host::plain;
@@ -31,13 +32,14 @@ fn write(asked: &Asked, to: &mut impl Write) -> Result<()> {
         let case = case(asked.seed, number);
         let Question { currency, class } = &case.question;
         let (report, text) = answer(case.room, |buffer| plain::brm_margin(&case.sheet, buffer));
+        let (full, full_text) = answer(case.room, |buffer| plain::brm_margin_full(&case.sheet, buffer));
         let (explanation, reasons) =
             answer(case.room, |buffer| plain::brm_explain(&case.sheet, currency, *class, buffer));
-        let numbers = [case.sheet.len() as u64, case.room as u64, report, currency.len() as u64, *class, explanation];
-        for number in numbers {
+        let (length, room, letters) = (case.sheet.len() as u64, case.room as u64, currency.len() as u64); // bytes
+        for number in [length, room, report, full, letters, *class, explanation] {
             to.write_all(&number.to_le_bytes())?;
         }
-        for bytes in [&case.sheet, &text, currency, &reasons] {
+        for bytes in [&case.sheet, &text, &full_text, currency, &reasons] {
             to.write_all(bytes)?;
         }
     }

@@ -5,7 +5,8 @@
 //! busy moment of the computer falls on both. Each figure is a median over the rounds. Only the call is timed, never
 //! the clearing.
 //!
-//! With them, the time of an explanation over that of the report of the same sheet, not cleared.
+//! The report is the full one, asked for by its name. With it, the time of the quiet report and that of an explanation
+//! over that of the full report of the same sheet, not cleared.
 
 use gronnhyl_host::plain::{self, LEAST_ROOM};
 use gronnhyl_host::sheets::Question;
@@ -17,7 +18,8 @@ const SEED: u64 = 2_000;
 const SHEETS: u64 = 16;
 const ROUNDS: usize = 600;
 const WARM_UP: usize = 20; // rounds
-const ENTRIES: [Entry; 2] = [kit::brm_margin, plain::brm_margin];
+const ENTRIES: [Entry; 2] = [kit::brm_margin_full, plain::brm_margin_full];
+const QUIET: [Entry; 2] = [kit::brm_margin, plain::brm_margin];
 const EXPLAINERS: [Explainer; 2] = [kit::brm_explain, plain::brm_explain];
 
 type Entry = fn(&[u8], &mut [u8]) -> u64;
@@ -30,6 +32,7 @@ struct Course {
     cleared: [Vec<f64>; 2],     // kit, plain
     not_cleared: [Vec<f64>; 2], // kit, plain
     steps: [Vec<f64>; 3],       // plain: reading, margining, report
+    quiet: [Vec<f64>; 2],       // kit, plain
     explained: [Vec<f64>; 2],   // kit, plain
 }
 
@@ -46,7 +49,7 @@ fn median(times: &[f64]) -> f64 {
     times[times.len() / 2]
 }
 
-/// The length of the text, in bytes, once both entries have given the same one.
+/// The length of the text, in bytes, once kit and plain have given the same one.
 fn same(entries: [impl Fn(&mut [u8]) -> u64; 2]) -> u64 {
     let texts = entries.map(|entry| {
         let mut report = vec![0; LEAST_ROOM];
@@ -67,14 +70,16 @@ impl Course {
             cleared: Default::default(),
             not_cleared: Default::default(),
             steps: Default::default(),
+            quiet: Default::default(),
             explained: Default::default(),
         }
     }
 
-    /// The report's length, in bytes, once both have given the same report and the same explanation.
+    /// The full report's length, in bytes, once both have given the same two reports and the same explanation.
     fn same_report(&self) -> u64 {
         let Question { currency, class } = &self.question;
         same(EXPLAINERS.map(|entry| move |report: &mut [u8]| entry(&self.sheet, currency, *class, report)));
+        same(QUIET.map(|entry| move |report: &mut [u8]| entry(&self.sheet, report)));
         same(ENTRIES.map(|entry| move |report: &mut [u8]| entry(&self.sheet, report)))
     }
 
@@ -94,7 +99,12 @@ impl Course {
         let mut figures = None;
         self.steps[1].push(timed(|| figures = Some(plain::figures(black_box(&tables)))));
         let Some(figures) = figures else { return };
-        self.steps[2].push(timed(|| plain::write(&tables, black_box(&figures), black_box(report))));
+        self.steps[2].push(timed(|| plain::write(&tables, black_box(&figures), true, black_box(report))));
+    }
+
+    fn call_quiet(&mut self, which: usize, report: &mut [u8]) {
+        let time = timed(|| QUIET[which](black_box(&self.sheet), black_box(report)));
+        self.quiet[which].push(time);
     }
 
     fn explain(&mut self, which: usize, report: &mut [u8]) {
@@ -105,7 +115,7 @@ impl Course {
 
     fn forget(&mut self) {
         let times = self.cleared.iter_mut().chain(&mut self.not_cleared).chain(&mut self.steps);
-        times.chain(&mut self.explained).for_each(Vec::clear);
+        times.chain(&mut self.quiet).chain(&mut self.explained).for_each(Vec::clear);
     }
 }
 
@@ -126,6 +136,7 @@ fn main() {
         courses.iter_mut().for_each(|course| course.step(&mut report));
         for turn in 0..2 {
             let which = (turn + round) % 2;
+            courses.iter_mut().for_each(|course| course.call_quiet(which, &mut report));
             courses.iter_mut().for_each(|course| course.explain(which, &mut report));
         }
     }
@@ -133,18 +144,22 @@ fn main() {
     println!("microseconds a sheet, medians of {ROUNDS} rounds; the clearing is not in the times");
     println!("                  buffer cleared    not cleared");
     println!("   sheet  report     kit   plain     kit   plain");
-    let mut sums = [0.0; 9];
+    let mut sums = [0.0; 11];
     for (course, length) in courses.iter().zip(lengths) {
-        let times = course.cleared.iter().chain(&course.not_cleared).chain(&course.steps).chain(&course.explained);
+        let times = course.cleared.iter().chain(&course.not_cleared).chain(&course.steps);
+        let times = times.chain(&course.quiet).chain(&course.explained);
         let of_sheet: Vec<f64> = times.map(|times| median(times)).collect();
         let [kit, plain, kit_not, plain_not] = [0, 1, 2, 3].map(|at| of_sheet[at]);
         println!("{:8} {length:7} {kit:7.1} {plain:7.1} {kit_not:7.1} {plain_not:7.1}", course.sheet.len());
         sums.iter_mut().zip(of_sheet).for_each(|(sum, time)| *sum += time);
     }
     let means = sums.map(|sum| sum / SHEETS as f64);
-    let [kit, plain, kit_not, plain_not, reading, margining, writing, kit_why, plain_why] = means;
+    let [kit, plain, kit_not, plain_not, reading, margining, writing, kit_quiet, plain_quiet, kit_why, plain_why] =
+        means;
     println!("    mean         {kit:7.1} {plain:7.1} {kit_not:7.1} {plain_not:7.1}");
     println!("plain by steps: reading {reading:.1}, margining {margining:.1}, report {writing:.1}");
+    let (quiet, plain_over) = (kit_quiet / kit_not, plain_quiet / plain_not);
+    println!("quiet over full: kit {quiet:.2}, plain {plain_over:.2}; on {}", processor::name());
     let (why, plain_over) = (kit_why / kit_not, plain_why / plain_not);
     println!("explanation over report: kit {why:.2}, plain {plain_over:.2}; on {}", processor::name());
     let (ratio, ratio_not) = (kit / plain, kit_not / plain_not);

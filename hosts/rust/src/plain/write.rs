@@ -3,8 +3,9 @@
 use super::figures::Figures;
 use super::tables::{Tables, CURRENCIES};
 
-/// Writes the report at the buffer's start and gives its length in bytes. The buffer has room for any report.
-pub fn write(tables: &Tables, figures: &Figures, report: &mut [u8]) -> usize {
+/// Writes the report at the buffer's start and gives its length in bytes. A full one has a K line for every class, a
+/// quiet one none of zeros. The buffer has room for any report.
+pub fn write(tables: &Tables, figures: &Figures, full: bool, report: &mut [u8]) -> usize {
     let mut pen = Pen::new(report);
     for (trade, &mark) in tables.trades[..tables.trade_count].iter().zip(&figures.marks) {
         let security = &tables.securities[trade.security as usize];
@@ -16,24 +17,28 @@ pub fn write(tables: &Tables, figures: &Figures, report: &mut [u8]) -> usize {
         pen.text(b"\n");
     }
     for &place in &by_name(tables)[..tables.currency_count] {
-        currency(&mut pen, tables, figures, place);
+        currency(&mut pen, tables, figures, full, place);
     }
     pen.length()
 }
 
 /// The K lines and the Z line of one currency.
-fn currency(pen: &mut Pen, tables: &Tables, figures: &Figures, place: usize) {
+fn currency(pen: &mut Pen, tables: &Tables, figures: &Figures, full: bool, place: usize) {
     let [a, b, c] = tables.currencies[place];
     let figures = &figures.currencies[place];
     for (at, class) in tables.classes[..tables.class_count].iter().enumerate() {
+        let (long, short, margin) = (figures.long[at], figures.short[at], figures.margin[at]); // whole units
+        if !full && (long, short, margin) == (0, 0, 0) {
+            continue;
+        }
         pen.text(&[b'K', b';', a, b, c, b';']);
         pen.number(class.number as u64);
         pen.text(b";");
-        pen.number(figures.long[at]);
+        pen.number(long);
         pen.text(b";");
-        pen.number(figures.short[at]);
+        pen.number(short);
         pen.text(b";");
-        pen.number(figures.margin[at]);
+        pen.number(margin);
         pen.text(b"\n");
     }
     pen.text(&[b'Z', b';', a, b, c, b';']);
