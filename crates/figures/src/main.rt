@@ -60,8 +60,8 @@ fn both_refuse(
     out: &mut [u8],
     number: u64, // 65,536 × refusal + line
 ) -> bool {
-    let quiet = kit::brm_margin(sheet, out);
-    let full = kit::brm_margin_full(sheet, out);
+    let quiet = kit::brm_margin(sheet, out); // bytes, or a refusal's number
+    let full = kit::brm_margin_full(sheet, out); // bytes, or a refusal's number
     (quiet == number) & (full == number)
 }
 
@@ -82,7 +82,7 @@ fn run_sizes() {
 
 fn main() {
     run_sizes();
-    let count = os::arg_count();
+    let count = os::arg_count(); // arguments, and the program's name
     for case in 0..1000 {
         let place: usize = 3 * case + 1; // arguments
         if place + 2 < count {

@@ -8,7 +8,7 @@ ghost use Rattle.paper.specs.Answer.{kit, explainer};
 fn report_on(
     sheet: &[u8],
     report: &mut [u8],
-    all: bool, // K lines, or none of zeros
+    all: bool, // the K lines, or those that are not of zeros
 ) -> u64
     ensures { λ r. ⌜ (r, now (report .exit)) ≡ kit all (now (sheet .entry)) (now (report .entry)) ⌝ }
 {

@@ -124,7 +124,7 @@ one-report r report buffer number bytes =
     ∙ ap (λ (n : ℕ). take n (report ++ drop (length report) buffer)) number
     ∙ take-append-seam report (drop (length report) buffer)
 
--- One answer is
+-- ... and one answer, be it a report or a refusal
 pub one-answer : (highest : Number) (buffer : Text) (a b : Answer) → IsAnswer highest a → IsAnswer highest b
     → handedBack a buffer ≡ handedBack b buffer → a ≡ b
 one-answer highest buffer (refused number line) (refused n l) (low, high, below) (lowest, most, less) e =

@@ -9,7 +9,7 @@ use lib.Dec.{T, eqb, ltb}
 use lib.ListN.{length, drop}
 use Rattle.paper.specs.Units.{Text, Fields, Room, Number, Line, Day, Class, Code}
 use Rattle.paper.specs.Lists.{sum, every, only, firstThat, given}
-use Rattle.paper.specs.Text.{ascii, LF}
+use Rattle.paper.specs.Text.{LF}
 use Rattle.paper.specs.Rows.{ClassRow, PriorityRow, Tables}
 use Rattle.paper.specs.Refusals.{Outcome, Rule, judged, isFactor, refused, accepted, RowKind, rulesOf, Period, dateKind, classKind, priorityKind, securityKind, tradeKind}
 use Rattle.paper.specs.Sheet.{begins, row, headerRules, header}
@@ -115,7 +115,8 @@ Demand1 kit =
 -- exactly when document 01's rules admit it. The K lines in its report are those of the kit's listing.
 -- Useless kits: one that refuses all fails it at the sheet of Example, which is the writing of admitted tables; one fixed
 -- report at any sheet with another; a length and nothing written at any buffer that does not hold the report already; the
--- first priority row only at Example, where the first row takes nothing and the second takes 300,000.
+-- first priority row only at Example, where the first row takes nothing and the second takes 300,000; the kit of the other
+-- listing at any sheet whose full report has a K line of zeros.
 abbrev pub Demand2 : Listing → Kit → Type 0
 Demand2 listing kit =
     (sheet buffer : Text) → IsBytes sheet → IsBytes buffer → 32_768 ≤ length buffer

@@ -49,7 +49,7 @@ reason = joinedUp (ascii "P;FR0011337880;1110160\n" ∷ ascii "R;6;300000;0\n" �
 abbrev pub shortReason : Text
 shortReason = joinedUp (ascii "P;ZZ0000000016;-600000\n" ∷ ascii "R;6;0;300000\n" ∷ ascii "B;S;300000\n" ∷ [])
 
--- The report is that of the sheet, full and quiet: no class has nothing left
+-- The report is that of the sheet, full and quiet: each class has something left
 pub printed : (listing : Listing) → answerBy listing 32_768 sheet ≡ accepted report
 unfolding nearest rounded isOpen workingAfter lines numberIn dateIn hasCodeForm hasCheckDigit isCode digits valuedFrom rowsFrom readSheet summed offsetRow offsetAll classLine currencyLines reportOf
 printed true = refl

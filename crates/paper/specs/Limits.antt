@@ -216,6 +216,7 @@ Limits =
     -- Listed: in full each class; in a quiet report one with a long or a short, its margin 0 or not, and no other
     × (map (λ b. isListed full b (class 1 government none)) (remaining 0 0 ∷ remaining 1 0 ∷ []) ≡ true ∷ true ∷ [])
     × (map (λ b. isListed quiet b (class 1 government none)) (remaining 0 0 ∷ remaining 1 0 ∷ remaining 0 1 ∷ remaining 1 1 ∷ []) ≡ false ∷ true ∷ true ∷ true ∷ [])
+    × (map (λ b. isListed quiet b (record { class = 1; kind = government; border = none; deposit = 10_000 })) (remaining 0 0 ∷ remaining 1 0 ∷ remaining 0 1 ∷ []) ≡ false ∷ true ∷ true ∷ [])
     -- A K line of zeros, and lines that are none
     × (map (λ text. isZeroLine (pieces semicolon (ascii text))) ("K;EUR;10;0;0;0" ∷ "K;EUR;10;1;0;0" ∷ "K;EUR;10;0;1;0" ∷ "K;EUR;10;0;0;1" ∷ "K;EUR;10;10;0;0" ∷ []) ≡ true ∷ false ∷ false ∷ false ∷ false ∷ [])
     × (map (λ text. isZeroLine (pieces semicolon (ascii text))) ("Z;EUR;0;0;0" ∷ "M;10;EUR;0" ∷ "" ∷ []) ≡ false ∷ false ∷ false ∷ [])
@@ -231,4 +232,4 @@ Limits =
 -- The claim
 pub limits : Limits
 unfolding nearest rounded isOpen workingAfter lines numberIn dateIn hasCodeForm hasCheckDigit isCode digits valuedFrom rowsFrom readSheet summed offsetRow offsetAll classLine currencyLines reportOf
-limits = (refl, refl, refl, refl, refl, refl, refl, refl, refl, refl, refl, refl, refl, refl, refl, refl, refl, refl, refl, refl, refl, refl, refl, refl, refl, refl, refl, refl, refl, refl, refl, refl, refl, refl, refl, refl, refl, refl, refl, refl, refl, refl, refl, refl, refl, refl, refl, refl, refl, refl, refl, refl, refl, refl, refl, refl, refl, refl, refl, refl, refl, refl, refl, refl, refl, refl, refl, refl, refl, refl, refl, refl, refl, refl, refl, refl, refl, refl, refl, refl, refl, refl, refl, refl, refl, refl, refl, refl, refl, refl, refl, refl, refl, refl, refl, refl, refl, refl, refl, refl, refl, refl, refl, refl, refl, refl)
+limits = (refl, refl, refl, refl, refl, refl, refl, refl, refl, refl, refl, refl, refl, refl, refl, refl, refl, refl, refl, refl, refl, refl, refl, refl, refl, refl, refl, refl, refl, refl, refl, refl, refl, refl, refl, refl, refl, refl, refl, refl, refl, refl, refl, refl, refl, refl, refl, refl, refl, refl, refl, refl, refl, refl, refl, refl, refl, refl, refl, refl, refl, refl, refl, refl, refl, refl, refl, refl, refl, refl, refl, refl, refl, refl, refl, refl, refl, refl, refl, refl, refl, refl, refl, refl, refl, refl, refl, refl, refl, refl, refl, refl, refl, refl, refl, refl, refl, refl, refl, refl, refl, refl, refl, refl, refl, refl, refl)

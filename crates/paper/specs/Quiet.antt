@@ -29,8 +29,8 @@ quietly (accepted report) = accepted (quieted report)
 
 -- The fifth promise, of a kit that gives full reports and of one that gives quiet ones: what the one answers, the other answers
 -- without these lines, on every sheet and buffer
--- Useless kits: the full one for both fails it at any sheet with a class that has nothing left; so does one that leaves out a line
--- for its margin of 0 alone, or a Z line of zeros, at any sheet that has such a line.
+-- Useless kits: the full one for both fails it where the full report has a K line of zeros; one that leaves out a line for its
+-- margin of 0 alone, or a Z line of zeros, where it has such a line. The quiet one for both passes here and fails demand 2.
 abbrev pub Promise5 : Kit → Kit → Type 0
 Promise5 full quiet =
     (sheet buffer : Text) → IsBytes sheet → IsBytes buffer

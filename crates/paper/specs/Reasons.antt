@@ -113,9 +113,10 @@ pub record Reason (t : Tables) (c : Currency) (n : Class) (report : Text) (e : E
   pub setter : SetBy (e .setter) (position (remainingIn t c .long) n) (position (remainingIn t c .short) n) (e .amount)
   pub line : Each (λ row. row .class ≡ n → HasLine (explainedLine t c n e row) report) (t .classes)
 
--- The fourth promise, of a kit that gives full reports and of one for each question. Every call is answered, with a refusal 1..13 or a text that fits. A
--- sheet that is refused a report is refused an explanation by the same number and line. Of a sheet that has a report a currency or
--- class that it lacks is refused 13, line 0; any other is explained, and the explanation is the true reason of that report's line.
+-- The fourth promise, of a kit that gives full reports and of one for each question. Every call is answered, with a refusal 1..13
+-- or a text that fits. A sheet that is refused a report is refused an explanation by the same number and line. Of a sheet that has
+-- a report a currency or class that it lacks is refused 13, line 0; any other is explained, and the explanation is the true reason
+-- of that report's line.
 abbrev pub Promise4 : Kit → (Text → Class → Kit) → Type 0
 Promise4 full explainer =
     ((sheet currency buffer : Text) (class : Class) → IsBytes sheet → IsBytes currency → IsBytes buffer

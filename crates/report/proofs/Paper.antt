@@ -5,7 +5,7 @@ use mathlib.Core.Bool.{Bool, true, false}
 use mathlib.Core.List.{List, [], _∷_, _++_, map}
 use mathlib.Core.Path.{_≡_, refl, sym, ap, ap₂, _∙_}
 use lib.IntN.{pos, natAbs}
-use lib.ListN.{length, getD}
+use lib.ListN.{length}
 use Rattle.paper.specs.Units.{Text, Line, Currency, SignedCents, Whole}
 use Rattle.paper.specs.Days.{day}
 use Rattle.paper.specs.Lists.{joinedUp, Each, nil, cons}

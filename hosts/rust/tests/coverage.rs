@@ -212,8 +212,8 @@ fn zeros(full: &[u8], seen: &mut Seen) {
         let classes: Vec<bool> = classes.iter().filter(|line| line[0] == "K").map(is_zeros).collect();
         currency_zeros(&classes, total[2..] == ["0"; 3], seen);
     }
-    let classes = lines.iter().filter(|line| line[0] == "K").count();
-    let left_out = lines.iter().filter(|line| is_zeros(line)).count();
+    let classes = lines.iter().filter(|line| line[0] == "K").count(); // lines
+    let left_out = lines.iter().filter(|line| is_zeros(line)).count(); // lines
     seen.note("a report with K lines and none of zeros", classes > 0 && left_out == 0);
     seen.note("a quiet report without K lines, and not a full one", classes > 0 && left_out == classes);
     seen.note("a report without lines", lines.is_empty());
