@@ -3,6 +3,7 @@
 
 usage: python3 tools/respell.py [--dry]        in the repository, after port.py, once
 
+What stands in a string is left as it is.
 A name that a file imports from another library keeps its spelling, and so do functions of src/, types and modules, and
 the names that the check generates (they stand in proofs/F/ alone, and go with the old proofs there).
 Where a lemma would get the name of a definition or of a function of src/, it ends in _lem.
@@ -14,6 +15,7 @@ import sys
 
 TOKEN = re.compile(r"[A-Za-z_][\w'₀-₉⁻¹]*(?:-[\w'₀-₉⁻¹]+)*")
 USE = re.compile(r"^(?:ghost )?(?:pub )?use ([\w.·'-]+)\.\{([^}]*)\}", re.M)
+STRING = re.compile(r'("(?:[^"\\]|\\.)*")')
 CAMEL = re.compile(r"[a-z][a-z0-9]*[A-Z]")
 ROOM = re.compile(r"crates/[^/]*/(specs|proofs)/[^/]*\.antt$")  # a file of definitions or lemmas, and no proof of one function
 
@@ -51,7 +53,7 @@ def snake(name):
 
 
 def code(text):
-    return re.sub(r"--(?= |$).*", "", text, flags=re.M)
+    return STRING.sub("", re.sub(r"--(?= |$).*", "", text, flags=re.M))
 
 
 def names(own):
@@ -113,7 +115,7 @@ def respelled(text, path, spell, own):
             out.append(line)
             continue
         dashes = path.endswith(".antt")
-        head = TOKEN.sub(one, head)
+        head = "".join(part if part.startswith('"') else TOKEN.sub(one, part) for part in STRING.split(head))
         dashes = False
         out.append(head + TOKEN.sub(one, tail))
     return "\n".join(out)

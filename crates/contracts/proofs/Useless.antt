@@ -38,7 +38,7 @@ long = length-replicate {A = ℕ} 32_768 0
 
 -- A sheet with no row behind its D row: its report is empty
 abbrev bare : Text
-bare = ascii "BRM;1\n_d;20190612\n"
+bare = ascii "BRM;1\nD;20190612\n"
 
 bare_printed : (l : Listing) → answer_by l 32_768 bare ≡ accepted []
 unfolding lines number_in date_in rows_from read_sheet valued_from report_of
@@ -123,10 +123,10 @@ first_row_shut_out l d =
 
 -- A sheet with a class and a security, and no trade: its full report has a K line of zeros, its quiet one has not
 abbrev idle : Text
-idle = ascii "BRM;1\n_d;20190612\n_c;6;G;32500;355\n_s;ZZ0000000016;EUR;G;32475;10000000;0;1;20190101;20200101\n"
+idle = ascii "BRM;1\nD;20190612\nC;6;G;32500;355\nS;ZZ0000000016;EUR;G;32475;10000000;0;1;20190101;20200101\n"
 
 abbrev idle_report : Listing → Text
-idle_report true = ascii "K;EUR;6;0;0;0\n_z;EUR;0;0;0\n"
+idle_report true = ascii "K;EUR;6;0;0;0\nZ;EUR;0;0;0\n"
 idle_report false = ascii "Z;EUR;0;0;0\n"
 
 idle_printed : (l : Listing) → answer_by l 32_768 idle ≡ accepted (idle_report l)

@@ -84,15 +84,15 @@ spelt_least (more p s) zero h = omega (arith, spelt_least s zero (omega arith))
 spelt_least (more p s) (suc k) h = omega (arith, spelt_least s k (omega arith))
 
 -- More digits behind a number that is not 0
-spelt_behind : {m : ℕ} {s : Text} (bs t : Text) → 0 < m → every is_digit bs ≡ true → Spelt m (bs ++ t) s
+spelt_behind : (m : ℕ) {s : Text} (bs t : Text) → 0 < m → every is_digit bs ≡ true → Spelt m (bs ++ t) s
     → Spelt (decimal m bs) t s
-spelt_behind [] t p h s = s
-spelt_behind {m} {s} (b ∷ bs) t p h r =
+spelt_behind m [] t p h s = s
+spelt_behind m {s} (b ∷ bs) t p h r =
     let e = every_cons is_digit b bs h in
     let d = bounds 48 57 b e.0 in
     let ten : (10 * m + (b - 48)) / 10 ≡ m = omega arith in
     let one : 48 + (10 * m + (b - 48)) % 10 ≡ b = omega arith in
-    spelt_behind bs t (omega arith) e.1 (more (omega arith) (rw (ten, one) r))
+    spelt_behind (10 * m + (b - 48)) bs t (omega arith) e.1 (more (omega arith) (rw (ten, one) r))
 
 -- One digit before a text
 first : (b : Byte) (t : Text) → (48 ≤ b) × (b ≤ 57) → Spelt (0 + (b - 48)) t (b ∷ t)
@@ -107,7 +107,7 @@ number_spelt (b ∷ []) h = first b [] (bounds 48 57 b h)
 number_spelt (b ∷ c ∷ bs) h =
     let k = both (between 49 57 b) (every is_digit (c ∷ bs)) h in
     let d = bounds 49 57 b k.0 in
-    spelt_behind (c ∷ bs) [] (omega arith) k.1 (rw (append-nil (c ∷ bs)) (first b (c ∷ bs) (omega arith)))
+    spelt_behind (0 + (b - 48)) (c ∷ bs) [] (omega arith) k.1 (rw (append-nil (c ∷ bs)) (first b (c ∷ bs) (omega arith)))
 
 -- What is written means the number
 pub digits_decimal : (n : ℕ) → decimal 0 (digits n) ≡ n

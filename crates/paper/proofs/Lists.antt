@@ -19,6 +19,7 @@ never e = absurd (subst T (sym e) tt)
 -- A test that holds passes, and one that passes holds
 pub passes : (b : Bool) → T b → b ≡ true
 passes true h = refl
+passes false h = elim h [ ]
 
 pub holds : (b : Bool) → b ≡ true → T b
 holds b e = subst T (sym e) tt
@@ -31,14 +32,17 @@ both false b e = never e
 -- Of two tests that hold together the first holds
 pub left : (a b : Bool) → T (a && b) → T a
 left true b h = tt
+left false b h = elim h [ ]
 
 -- And so does the second
 pub right : (a b : Bool) → T (a && b) → T b
 right true b h = h
+right false b h = elim h [ ]
 
 -- Two tests that hold hold together
 pub together : (a b : Bool) → T a → T b → T (a && b)
 together true b h k = k
+together false b h k = elim h [ ]
 
 -- Where a first test passes, and it fails or else a second holds, the second holds
 pub otherwise : (a b : Bool) → a ≡ true → T (not a || b) → T b

@@ -30,6 +30,7 @@ refused_one e = (cc, cc)
 pub judged_holds : {A : Type 0} (at : Line) (a : A) (rules : List Rule) → T (hold rules) → judged at a rules ≡ accepted a
 judged_holds at a [] h = refl
 judged_holds at a ((number, true) ∷ rules) h = judged_holds at a rules h
+judged_holds at a ((number, false) ∷ rules) h = elim h [ ]
 
 -- Where what is judged is accepted, every rule holds
 pub judged_accepted : {A : Type 0} (at : Line) (a b : A) (rules : List Rule) → judged at a rules ≡ accepted b

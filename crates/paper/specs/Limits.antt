@@ -85,18 +85,18 @@ sale =
 abbrev francs : Text
 francs =
     joined_up
-    (ascii "M;9;EUR;1028170\n_m;10;CHF;100000\n"
-    ∷ ascii "K;CHF;6;0;0;0\n_k;CHF;7;0;600000;29400\n_z;CHF;100000;29400;2840000\n"
-    ∷ ascii "K;EUR;6;1110160;0;39411\n_k;EUR;7;0;0;0\n_z;EUR;1028170;39411;2912930\n"
+    (ascii "M;9;EUR;1028170\nM;10;CHF;100000\n"
+    ∷ ascii "K;CHF;6;0;0;0\nK;CHF;7;0;600000;29400\nZ;CHF;100000;29400;2840000\n"
+    ∷ ascii "K;EUR;6;1110160;0;39411\nK;EUR;7;0;0;0\nZ;EUR;1028170;39411;2912930\n"
     ∷ [])
 
 -- ... and the quiet one
 abbrev quiet_francs : Text
 quiet_francs =
     joined_up
-    (ascii "M;9;EUR;1028170\n_m;10;CHF;100000\n"
-    ∷ ascii "K;CHF;7;0;600000;29400\n_z;CHF;100000;29400;2840000\n"
-    ∷ ascii "K;EUR;6;1110160;0;39411\n_z;EUR;1028170;39411;2912930\n"
+    (ascii "M;9;EUR;1028170\nM;10;CHF;100000\n"
+    ∷ ascii "K;CHF;7;0;600000;29400\nZ;CHF;100000;29400;2840000\n"
+    ∷ ascii "K;EUR;6;1110160;0;39411\nZ;EUR;1028170;39411;2912930\n"
     ∷ [])
 
 -- Positions of class 1, whole units
