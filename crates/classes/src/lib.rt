@@ -1,5 +1,7 @@
 // C rows: read from their lines, judged by those above, and put into their table; the section is their table, or the refusal of
 // one. Of the rows above, what judges a row is kept: refusal 9 in constant time.
+#![tactic(auto)]
+
 ghost use Rattle.std.specs.Prelude.{◌≡◌, [], ◌≤◌, ◌<◌, take, drop};
 ghost use Rattle.paper.specs.Refusals.{refused, class_kind};
 ghost use Rattle.paper.specs.Text.{lines};
@@ -30,7 +32,7 @@ enum ClassRead {
 }
 
 // What the rows above tell.
-#[derive(Drop)]
+#[derive(Clone, Copy)]
 struct Seen {
     pub last: Class, // of the row above; 0 where there is none
     pub least: [Duration; 4], // for each kind, the least border that its next row may have: 0 while the kind has no row
@@ -255,7 +257,7 @@ pub fn class_of(
     duration: u64, // ten-thousandths of a year
 ) -> u64
     requires { count ≤ 40 }
-    ensures { result ≡ class_in (take count kinds.now) (take count borders.entry.now) (take count numbers.entry.now) kind duration }
+    ensures { result ≡ class_in (take count kinds.now) (take count borders.now) (take count numbers.now) kind duration }
 {
     let kinds: &[u64] = kinds; // as a slice: a proof is told its length
     let borders: &[u64] = borders; // ten-thousandths of a year

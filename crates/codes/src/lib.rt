@@ -1,5 +1,7 @@
 // Codes and currencies in a field: letters and digits, with the digit that checks a code, as one number that orders as the bytes
 // do; the highest number where the field is neither.
+#![tactic(auto)]
+
 ghost use Rattle.std.specs.Prelude.{◌≡◌, ◌+◌, ◌≤◌, [], ◌∷◌, length};
 ghost use Rattle.std.proofs.Math.Seq.{slice};
 ghost use Rattle.paper.specs.Lists.{between};

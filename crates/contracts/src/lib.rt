@@ -1,1 +1,2 @@
 // Claims only: two answers that one contract allows are equal.
+#![tactic(auto)]

@@ -1,4 +1,6 @@
 // Days: what day a date of eight digits is, and which working day comes after a day.
+#![tactic(auto)]
+
 mod table;
 
 ghost use Rattle.std.specs.Prelude.{true, ◌≡◌, ◌+◌, ◌-◌, ◌*◌, ◌/◌, ◌≤◌, ◌<◌, take, get_or};
@@ -84,8 +86,8 @@ fn is_real(y: Year, month: Month, day: Days) -> bool
 
 // The day of a year, a month and a day of the month that are real.
 fn day_in(years: &[Day; 400], y: Year, month: Month, day: Days) -> Day
-    requires years_value { years.now ≡ new_years }
-    requires day_value { is_real y month day ≡ true }
+    requires table { years.now ≡ new_years }
+    requires real { is_real y month day ≡ true }
     ensures { result ≡ day_in y month day }
 {
     years[(y - 2000) as usize] + days_before(y, month) + day
@@ -131,8 +133,8 @@ pub fn weekday(day: Day) -> DayOfWeek
 
 // The year of a day. No year has more than 366 days, so the guess is never late; over 400 years it is at most one year early.
 fn year_of(years: &[Day; 400], day: Day) -> Year
-    requires years_value { years.now ≡ new_years }
-    requires day_bound { day < 146_400 }
+    requires table { years.now ≡ new_years }
+    requires in_time { day < 146_400 }
     ensures { result ≡ year_of day }
 {
     let guess = day / 366; // years from 2000
@@ -167,8 +169,8 @@ fn spring_moon(y: Year) -> Days
 
 // Easter Sunday: the first Sunday after that moon.
 fn easter(years: &[Day; 400], y: Year) -> Day
-    requires years_value { years.now ≡ new_years }
-    requires le_y { (2000 ≤ y) × (y ≤ 2399) }
+    requires table { years.now ≡ new_years }
+    requires in_range { (2000 ≤ y) × (y ≤ 2399) }
     ensures { result ≡ easter y }
 {
     let moon = day_in(years, y, 2, 20) + spring_moon(y); // day
@@ -179,8 +181,8 @@ fn easter(years: &[Day; 400], y: Year) -> Day
 // Whether a day is one of a year's closing days: 1 January, Good Friday, Easter Monday, 1 May, 25 and 26 December, in the paper's
 // order.
 fn is_closing(years: &[Day; 400], y: Year, day: Day) -> bool
-    requires years_value { years.now ≡ new_years }
-    requires le_y { (2000 ≤ y) × (y ≤ 2399) }
+    requires table { years.now ≡ new_years }
+    requires in_range { (2000 ≤ y) × (y ≤ 2399) }
     ensures { result ≡ is_closing y day }
 {
     let sunday: Day = easter(years, y);
@@ -204,8 +206,8 @@ fn is_closing(years: &[Day; 400], y: Year, day: Day) -> bool
 
 // Whether a day is a working day.
 pub fn is_open(years: &[Day; 400], day: Day) -> bool
-    requires years_value { years.now ≡ new_years }
-    requires day_bound { day < 146_400 }
+    requires table { years.now ≡ new_years }
+    requires in_time { day < 146_400 }
     ensures { result ≡ is_open day }
 {
     if 4 < weekday(day) {
@@ -216,8 +218,8 @@ pub fn is_open(years: &[Day; 400], day: Day) -> bool
 
 // The first working day after a day. The fifth day is open where the first four are not, so it is not tested.
 pub fn working_after(years: &[Day; 400], day: Day) -> Day
-    requires years_value { years.now ≡ new_years }
-    requires day_bound { day < 146_097 }
+    requires table { years.now ≡ new_years }
+    requires in_time { day < 146_097 }
     ensures { result ≡ working_after day }
 {
     let mut d: Day = day + 1;

@@ -1,6 +1,8 @@
 // What stands in a field: the bytes of a lent sheet from a place up to another.
 // A field is read by the ends of its line's fields and by its number: as a number, and as the highest one where it is nothing that
 // it may be.
+#![tactic(auto)]
+
 ghost use Rattle.std.specs.Prelude.{◌≡◌, ◌+◌, ◌-◌, ◌≤◌, ◌<◌, eqb, length, get_or};
 ghost use Rattle.std.proofs.Math.Option.{none, map};
 ghost use Rattle.std.proofs.Math.Seq.{slice};
@@ -19,7 +21,7 @@ use places::Place;
 fn digits_in(s: &[u8], at: Place, end: Place) -> u64
     requires { (at ≤ end) × (end ≤ length s.now) × (end ≤ at + 19) }
     ensures value { result ≡ or_highest (digits_in (slice at end s.now)) }
-    ensures s_value { result ≡ 18446744073709551615 → digits_in (slice at end s.now) ≡ none }
+    ensures highest { result ≡ 18446744073709551615 → digits_in (slice at end s.now) ≡ none }
 {
     let mut n: u64 = 0; // any unit
     let mut i: Place = at;
@@ -237,7 +239,7 @@ pub fn day_at(
     k: usize, // fields behind the letter
 ) -> Day
     requires stands { Stands s.now ends.now k }
-    requires years_value { years.now ≡ new_years }
+    requires table { years.now ≡ new_years }
     ensures { result ≡ or_highest (day_of (date_in (field_text s.now ends.now k))) }
 {
     let Dated::Day(day) = days::day_of(years, date_at(s, ends, k)) else {

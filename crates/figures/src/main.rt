@@ -1,58 +1,108 @@
 // The figures of document 01 that are not starred, and the cases under tests/, run on the kit itself and compared.
 // Its arguments are the cases, each as three files: a sheet, and what the forecast prints for it, quiet and full.
-ghost use Rattle.std.specs.Prelude.{◌≤◌};
-ghost use Rattle.io.specs.Counts.{IsPrefixLen};
+#![tactic(auto)]
 
-use libc::STDOUT_FILENO;
+ghost use Rattle.std.specs.Prelude.{◌≤◌, length, IfOk};
+
+use std::env::{Env, FillError};
+use std::fs::Files;
+use std::io::{Print, Read};
+use std::{fs, io, str};
 
 // What was run, and whether the kit gave what is expected.
-fn say(name: &[u8], same: bool) {
-    io::write_all(STDOUT_FILENO, name);
+fn say(rt: &impl Print, name: &[u8], same: bool) -> io::Result<()> {
+    rt.write_all(name)?;
     if same {
-        io::write_all(STDOUT_FILENO, b": as expected\n");
+        rt.write_all(b": as expected\n")
     } else {
-        io::write_all(STDOUT_FILENO, b": DIFFERS\n");
+        rt.write_all(b": DIFFERS\n")
     }
 }
 
-// A file, as far as there is room; gives how many bytes it has, 0 where it cannot be opened.
-fn read_file(name: &[u8], text: &mut [u8]) -> usize
-    ensures { IsPrefixLen result text.new }
+// Puts an argument at the start of the buffer and gives its length, 0 where it is missing or longer than the buffer.
+fn argument(
+    rt: &impl Env,
+    place: usize, // among the arguments; that of the program's name is 0
+    text: &mut [u8],
+) -> usize
+    ensures { result ≤ length text.new }
 {
-    let file = os::open_read(name); // a descriptor
-    let size = io::read_full(file, text); // bytes
-    libc::close(file);
-    size
+    match rt.arg(place, text) {
+        Ok(size) => size,
+        Err(_) => 0,
+    }
+}
+
+// Whether there is an argument at a place.
+fn has_argument(
+    rt: &impl Env,
+    place: usize, // among the arguments; that of the program's name is 0
+) -> bool {
+    let mut first = [0u8; 1];
+    match rt.arg(place, &mut first) {
+        Err(FillError::NotPresent) => false,
+        _ => true,
+    }
+}
+
+// Reads until the buffer is full or the input ends, and gives how many bytes it put at the buffer's start.
+fn read_full(input: &mut impl Read, text: &mut [u8]) -> io::Result<usize>
+    ensures { IfOk result (λ size. size ≤ length text.new) }
+{
+    let mut size: usize = 0; // bytes read
+    while size < text.len() {
+        let more = input.read(&mut text[size..])?; // bytes
+        if more == 0 {
+            break;
+        }
+        size += more;
+    }
+    Ok(size)
+}
+
+// A file, as far as there is room; gives how many bytes it has, 0 where it cannot be opened.
+fn read_file(rt: &impl Files, name: &[u8], text: &mut [u8]) -> io::Result<usize>
+    ensures { IfOk result (λ size. size ≤ length text.new) }
+{
+    let Ok(path) = str::from_utf8(name) else {
+        return Ok(0);
+    };
+    let Ok(mut file) = fs::open(rt, path) else {
+        return Ok(0);
+    };
+    read_full(&mut file, text)
 }
 
 // Whether the report of a sheet is the text in the file at a place among the arguments.
 fn is_shown(
+    rt: &(impl Env + Files),
     sheet: &[u8],
-    text_place: usize, // arguments
+    text_place: usize, // among the arguments
     full: bool, // or quiet
-) -> bool {
-    let mut name = io::buffer();
+) -> io::Result<bool> {
+    let mut name = [0u8; 4096];
     let mut text = [0u8; 32768];
     let mut out = [0u8; 32768];
-    let letters = os::arg(text_place, &mut name); // bytes
-    let expected = read_file(&name[..letters], &mut text); // bytes
+    let letters = argument(rt, text_place, &mut name); // bytes
+    let expected = read_file(rt, &name[..letters], &mut text)?; // bytes
     let shown = shown::show(sheet, &mut out, full); // bytes
-    check::same(&out[..shown], &text[..expected])
+    Ok(check::same(&out[..shown], &text[..expected]))
 }
 
 // One case, by the place of the first of its three files among the arguments.
 fn run_case(
-    place: usize, // arguments
-)
+    rt: &(impl Env + Files + Print),
+    place: usize, // among the arguments
+) -> io::Result<()>
     requires { place ≤ 3_000 }
 {
-    let mut name = io::buffer();
+    let mut name = [0u8; 4096];
     let mut sheet = [0u8; 65537];
-    let letters = os::arg(place, &mut name); // bytes
-    let size = read_file(&name[..letters], &mut sheet); // bytes
-    let quiet = is_shown(&sheet[..size], place + 1, false);
-    let full = is_shown(&sheet[..size], place + 2, true);
-    say(&name[..letters], quiet & full);
+    let letters = argument(rt, place, &mut name); // bytes
+    let size = read_file(rt, &name[..letters], &mut sheet)?; // bytes
+    let quiet = is_shown(rt, &sheet[..size], place + 1, false)?;
+    let full = is_shown(rt, &sheet[..size], place + 2, true)?;
+    say(rt, &name[..letters], quiet & full)
 }
 
 // Whether the entries of both listings refuse a sheet with this number.
@@ -68,26 +118,26 @@ fn both_refuse(
 
 // Figure 10: a sheet of 65,536 bytes is judged by its lines, here refused 3 by its first, which is empty; one byte more, and
 // it is refused 2. A buffer of 32,767 bytes is refused 1, whatever the sheet.
-fn run_sizes() {
+fn run_sizes(rt: &impl Print) -> io::Result<()> {
     let most = [10u8; 65536];
     let over = [10u8; 65537];
     let mut out = [0u8; 32768];
     let mut short = [0u8; 32767];
     let judged = both_refuse(&most, &mut out, 3 * 65536 + 1);
-    say(b"a sheet of 65,536 bytes", judged);
+    say(rt, b"a sheet of 65,536 bytes", judged)?;
     let too_long = both_refuse(&over, &mut out, 2 * 65536);
-    say(b"a sheet of 65,537 bytes", too_long);
+    say(rt, b"a sheet of 65,537 bytes", too_long)?;
     let too_short = both_refuse(&most, &mut short, 65536);
-    say(b"a buffer of 32,767 bytes", too_short);
+    say(rt, b"a buffer of 32,767 bytes", too_short)
 }
 
-fn main() {
-    run_sizes();
-    let count = os::arg_count(); // arguments, and the program's name
+fn main(rt: HostRuntime) -> io::Result<()> {
+    run_sizes(&rt)?;
     for case in 0..1000 {
-        let place: usize = 3 * case + 1; // arguments
-        if place + 2 < count {
-            run_case(place);
+        let place: usize = 3 * case + 1; // among the arguments
+        if has_argument(&rt, place + 2) {
+            run_case(&rt, place)?;
         }
     }
+    Ok(())
 }

@@ -1,4 +1,6 @@
 // The head of a sheet: its header and its D row, the fields of which a reader hands out one after another.
+#![tactic(auto)]
+
 ghost use Rattle.std.specs.Prelude.{◌≡◌, ◌≤◌, length};
 ghost use Rattle.std.proofs.Math.Seq.{slice};
 ghost use Rattle.paper.specs.Days.{new_years};
@@ -19,7 +21,7 @@ pub enum DateRead {
 }
 
 // Stands on the lent sheet, and hands out one field after another, each with the mark that ends it.
-#[derive(Drop)]
+#[derive(Clone, Copy)]
 struct Reader<'a> {
     sheet: &'a [u8],
     at: Place, // where the next field starts

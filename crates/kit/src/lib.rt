@@ -1,5 +1,7 @@
 // The kit's entries, for a spreadsheet and other hosts: a sheet and a lent report buffer to one number. Accepted, the text's length,
 // the text at the buffer's start; refused, 65,536 × refusal + line, the buffer as it was.
+#![tactic(auto)]
+
 ghost use Rattle.std.specs.Prelude.{◌≡◌};
 ghost use Rattle.paper.specs.Report.{full, quiet};
 ghost use Rattle.paper.specs.Answer.{kit, explainer};
@@ -22,30 +24,27 @@ fn report_on(
 }
 
 // The quiet report of a sheet: no K line has long, short and margin all zero.
-#[unsafe(no_mangle)]
-pub extern "C" fn brm_margin(sheet: &[u8], report: &mut [u8]) -> u64
+pub fn brm_margin(sheet: &[u8], report: &mut [u8]) -> u64
     ensures { (result, report.new) ≡ kit quiet sheet.now report.old }
 {
     report_on(sheet, report, false)
 }
 
 // The full report of a sheet: in each currency a K line for every class.
-#[unsafe(no_mangle)]
-pub extern "C" fn brm_margin_full(sheet: &[u8], report: &mut [u8]) -> u64
+pub fn brm_margin_full(sheet: &[u8], report: &mut [u8]) -> u64
     ensures { (result, report.new) ≡ kit full sheet.now report.old }
 {
     report_on(sheet, report, true)
 }
 
 // Why the margin of a class in a currency is what it is.
-#[unsafe(no_mangle)]
-pub extern "C" fn brm_explain(
+pub fn brm_explain(
     sheet: &[u8],
     currency: &[u8],
     class: u64, // any number
     report: &mut [u8],
 ) -> u64
-    ensures { (result, report.exit.now) ≡ explainer currency.now class sheet.now report.entry.now }
+    ensures { (result, report.new) ≡ explainer currency.now class sheet.now report.old }
 {
     let known = sheet::read_sheet(sheet, report.len());
     if known.refusal != 0 {

@@ -1,5 +1,7 @@
 // Lines of the report: numbers as digits, fields and whole lines, written into the lent buffer from a place on.
 // Each function gives the place behind what it wrote.
+#![tactic(auto)]
+
 ghost use Rattle.std.specs.Prelude.{◌+◌, ◌≤◌, ◌<◌, ◌^◌, max, ◌≡◌, [], ◌∷◌, ◌++◌, nat_abs, length};
 ghost use Rattle.paper.specs.Text.{semicolon, digits, signed_digits};
 ghost use Rattle.paper.specs.Explanation.{setter_of, setter_letter, setter_line};
@@ -174,8 +176,8 @@ fn put_signed_field(
     z: i64, // any unit
     end: u8, // a byte
 ) -> Place
-    requires z_bound { nat_abs z < 2 ^ 63 }
-    requires end_in_bounds { at + length (signed_digits z ++ (end ∷ [])) ≤ length report.old }
+    requires size { nat_abs z < 2 ^ 63 }
+    requires room { at + length (signed_digits z ++ (end ∷ [])) ≤ length report.old }
     ensures { Wrote (signed_digits z ++ (end ∷ [])) at report.old result report.new }
 {
     if z < 0 {
@@ -223,8 +225,8 @@ pub fn mark_line(
     line: u64, // of the sheet, from 1
     mark: i64, // cents
 ) -> Place
-    requires mark_bound { (nat_abs mark < 2 ^ 63) × (money < 79_507) }
-    requires mark_in_bounds { at + length (mark_line line (money_text money) mark) ≤ length report.old }
+    requires numbers { (nat_abs mark < 2 ^ 63) × (money < 79_507) }
+    requires room { at + length (mark_line line (money_text money) mark) ≤ length report.old }
     ensures { Wrote (mark_line line (money_text money) mark) at report.old result report.new }
 {
     let first = put_two(report, at, 77, 59);
@@ -243,8 +245,8 @@ pub fn position_line(
     short: u64, // whole units
     margin: u64, // whole units
 ) -> Place
-    requires money_bound { money < 79_507 }
-    requires margin_in_bounds { at + length (position_line (money_text money) class long short margin) ≤ length report.old }
+    requires currency { money < 79_507 }
+    requires room { at + length (position_line (money_text money) class long short margin) ≤ length report.old }
     ensures { Wrote (position_line (money_text money) class long short margin) at report.old result report.new }
 {
     let first = put_two(report, at, 75, 59);
@@ -264,8 +266,8 @@ pub fn total_line(
     initial: u64, // whole units
     total: u64, // cents
 ) -> Place
-    requires mark_bound { (nat_abs mark < 2 ^ 63) × (money < 79_507) }
-    requires total_in_bounds { at + length (total_line (money_text money) mark initial total) ≤ length report.old }
+    requires numbers { (nat_abs mark < 2 ^ 63) × (money < 79_507) }
+    requires room { at + length (total_line (money_text money) mark initial total) ≤ length report.old }
     ensures { Wrote (total_line (money_text money) mark initial total) at report.old result report.new }
 {
     let first = put_two(report, at, 90, 59);
@@ -282,8 +284,8 @@ pub fn security_line(
     code: Code,
     net: i64, // whole units
 ) -> Place
-    requires net_bound { nat_abs net < 2 ^ 63 }
-    requires net_in_bounds { at + length (security_line (code_text code) net) ≤ length report.old }
+    requires size { nat_abs net < 2 ^ 63 }
+    requires room { at + length (security_line (code_text code) net) ≤ length report.old }
     ensures { Wrote (security_line (code_text code) net) at report.old result report.new }
 {
     let first = put_two(report, at, 80, 59);

@@ -1,5 +1,7 @@
 // From tables to figures: each trade's mark-to-market, and for each currency the remaining positions and margin of each
 // class, the initial margin and the total.
+#![tactic(auto)]
+
 ghost use Rattle.std.specs.Prelude.{◌≡◌, ℕ, ◌+◌, ◌≤◌, ◌<◌, ◌^◌, pos, nat_abs, ◌+ℤ◌, length, get_or, take, set};
 ghost use Rattle.paper.specs.Lists.{Each};
 ghost use Rattle.paper.specs.Rounding.{rounded as rounded_of};
@@ -53,7 +55,7 @@ pub struct Opening {
 }
 
 // The figures of one currency.
-#[derive(Drop)]
+#[derive(Clone, Copy)]
 pub struct Currency {
     pub long: [Whole; 41], // remaining
     pub short: [Whole; 41], // remaining
@@ -64,7 +66,7 @@ pub struct Currency {
 }
 
 // The figures of a sheet.
-#[derive(Drop)]
+#[derive(Clone, Copy)]
 pub struct Figures {
     pub marks: [SignedCents; 500], // of each trade, 0 where it is not margined
     pub currencies: [Currency; 8], // rising
@@ -138,7 +140,7 @@ fn openings_of(
     worths: &[SignedCents; 200],
 ) -> Openings
     requires { (count ≤ 200) × Each Seated (take count rows) × ((i : ℕ) → nat_abs (get_or worths.now i (pos 0)) ≤ most_net_cents) }
-    ensures { result ≡ openings_of (from_rank (net_at rows worths.entry.now) count 0) }
+    ensures { result ≡ openings_of (from_rank (net_at rows worths.now) count 0) }
 {
     let mut long: [Whole; 328] = [0; 328];
     let mut short: [Whole; 328] = [0; 328];
@@ -245,8 +247,8 @@ fn total(initial: Whole, mark: SignedCents) -> Cents
 
 // The figures of one currency from its opening positions.
 fn currency_of(book: Book, classes: Classes, priorities: Priorities, mark: SignedCents) -> Currency
-    requires count_bound { (classes.count ≤ 40) × Each ClassRanged (class_rows classes) × (priorities.count ≤ 200) × Each (λ o. PriorityFacts (row_of o)) (priority_rows priorities) }
-    requires book_facts { BookFacts (book_of book.long book.short) × (nat_abs mark ≤ most_mark_sum) }
+    requires rows { (classes.count ≤ 40) × Each ClassRanged (class_rows classes) × (priorities.count ≤ 200) × Each (λ o. PriorityFacts (row_of o)) (priority_rows priorities) }
+    requires amounts { BookFacts (book_of book.long book.short) × (nat_abs mark ≤ most_mark_sum) }
     ensures { result ≡ currency_of classes priorities mark (book_of book.long book.short) }
 {
     let mut long = book.long; // whole units

@@ -1,5 +1,7 @@
 // Offsetting: the long and short positions of the classes in one currency, taken down row by row of the priority list.
 // A class's position stands at the place of its number, 0..40.
+#![tactic(auto)]
+
 ghost use Rattle.std.specs.Prelude.{◌≡◌, map, ◌≤◌, take};
 ghost use Rattle.paper.specs.Offsetting.{share as share_of, offset as offset_by, offset_row, offset_all};
 ghost use Rattle.paper.specs.Lists.{Each};
@@ -66,8 +68,8 @@ pub fn offset_all(
     long: &mut [Whole; 41],
     short: &mut [Whole; 41],
 )
-    requires { (count ≤ 200) × Each (λ r. PriorityFacts (row_of r)) (take count rows) × BookFacts (book_of long.now short.old) }
-    ensures { book_of long.exit.now short.new ≡ offset_all (map row_of (take count rows)) (book_of long.entry.now short.old) }
+    requires { (count ≤ 200) × Each (λ r. PriorityFacts (row_of r)) (take count rows) × BookFacts (book_of long.old short.old) }
+    ensures { book_of long.new short.new ≡ offset_all (map row_of (take count rows)) (book_of long.old short.old) }
 {
     offset_each(&rows[..count], long, short);
 }

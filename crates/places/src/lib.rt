@@ -1,4 +1,6 @@
 // Lines and fields by their places: a line of a lent sheet is looked through once, for where its fields end.
+#![tactic(auto)]
+
 ghost use Rattle.std.specs.Prelude.{◌≡◌, ◌+◌, ◌-◌, ◌≤◌, ◌<◌, eqb, length, get_or};
 ghost use Rattle.paper.specs.Text.{LF};
 ghost use Rattle.places.specs.Places.{ended_length, line_at};

@@ -1,5 +1,7 @@
 // O rows: read from their lines, judged by the C rows, and put into their table; the section is their table, or the refusal of
 // one.
+#![tactic(auto)]
+
 ghost use Rattle.std.specs.Prelude.{◌≡◌, true, [], ◌≤◌, ◌<◌, drop};
 ghost use Rattle.paper.specs.Refusals.{refused, priority_kind};
 ghost use Rattle.paper.specs.Text.{lines};

@@ -1,5 +1,7 @@
 // Why a class's margin in a currency is what it is, as lines in the lent buffer: the nets of its securities, what each row of the
 // priority list took from it, and the remaining side that set the margin.
+#![tactic(auto)]
+
 ghost use Rattle.std.specs.Prelude.{◌≡◌, true, ℕ, ◌+◌, ◌≤◌, ◌<◌, ◌^◌, pos, nat_abs, length, get_or, take};
 ghost use Rattle.paper.specs.Lists.{Each};
 ghost use Rattle.paper.specs.Refusals.{has_class};
@@ -67,8 +69,8 @@ fn put_net(
     code: Code,
     net: i64, // whole units
 ) -> Place
-    requires net_bound { nat_abs net < 2 ^ 63 }
-    requires net_in_bounds { at + length (net_line_if own code net) ≤ length report.old }
+    requires size { nat_abs net < 2 ^ 63 }
+    requires room { at + length (net_line_if own code net) ≤ length report.old }
     ensures { Wrote (net_line_if own code net) at report.old result report.new }
 {
     if !own {
@@ -88,8 +90,8 @@ fn net_lines(
     rank: usize, // currency
     class: usize, // its number
 ) -> Place
-    requires count_bound { (securities.count ≤ 200) × Each Seated (take securities.count securities.rows) × ((i : ℕ) → nat_abs (get_or worths.now i (pos 0)) ≤ most_net_cents) }
-    requires class_in_bounds { length (net_texts securities worths.now rank class) ≤ length report.old }
+    requires rows { (securities.count ≤ 200) × Each Seated (take securities.count securities.rows) × ((i : ℕ) → nat_abs (get_or worths.now i (pos 0)) ≤ most_net_cents) }
+    requires room { length (net_texts securities worths.now rank class) ≤ length report.old }
     ensures { Wrote (net_texts securities worths.now rank class) 0 report.old result report.new }
 {
     let rows = securities.rows;
@@ -133,10 +135,10 @@ fn take_row(
     short: &mut [Whole; 41],
     row: PriorityRow,
 ) -> Place
-    requires class_bound { (class ≤ 40) × PriorityFacts (row_of row) × BookFacts (book_of long.now short.old) }
-    requires short_in_bounds { at + length (row_text line class (book_of long.now short.old) (offset_row (row_of row) (book_of long.now short.old))) ≤ length report.old }
-    ensures left { book_of long.exit.now short.new ≡ offset_row (row_of row) (book_of long.entry.now short.old) }
-    ensures written { Wrote (row_text line class (book_of long.entry.now short.old) (offset_row (row_of row) (book_of long.entry.now short.old))) at report.old result report.new }
+    requires facts { (class ≤ 40) × PriorityFacts (row_of row) × BookFacts (book_of long.old short.old) }
+    requires room { at + length (row_text line class (book_of long.old short.old) (offset_row (row_of row) (book_of long.old short.old))) ≤ length report.old }
+    ensures left { book_of long.new short.new ≡ offset_row (row_of row) (book_of long.old short.old) }
+    ensures written { Wrote (row_text line class (book_of long.old short.old) (offset_row (row_of row) (book_of long.old short.old))) at report.old result report.new }
 {
     let long_met = long[class]; // whole units
     let short_met = short[class]; // whole units
@@ -160,9 +162,9 @@ fn remaining_lines(
     class: usize, // its number
     opening: Opening,
 ) -> Place
-    requires first_bound { (first ≤ 43) × (class ≤ 40) × (priorities.count ≤ 200) × Each (λ o. PriorityFacts (row_of o)) (priority_rows priorities) }
-    requires book_facts { BookFacts (book_of opening.long opening.short) }
-    requires short_in_bounds { from + length (remaining_text first priorities class (book_of opening.long opening.short)) ≤ length report.old }
+    requires rows { (first ≤ 43) × (class ≤ 40) × (priorities.count ≤ 200) × Each (λ o. PriorityFacts (row_of o)) (priority_rows priorities) }
+    requires book { BookFacts (book_of opening.long opening.short) }
+    requires room { from + length (remaining_text first priorities class (book_of opening.long opening.short)) ≤ length report.old }
     ensures { Wrote (remaining_text first priorities class (book_of opening.long opening.short)) from report.old result report.new }
 {
     let rows = priorities.rows;
@@ -186,7 +188,7 @@ pub fn write(
     class: usize, // its number
 ) -> Place
     requires explainable { Explainable tables rank class }
-    requires class_in_bounds { length (reason_text tables rank class) ≤ length report.old }
+    requires room { length (reason_text tables rank class) ≤ length report.old }
     ensures { Wrote (reason_text tables rank class) 0 report.old result report.new }
 {
     let opening = margin::opening_of(tables, rank);

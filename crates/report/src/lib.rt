@@ -1,5 +1,7 @@
 // The report: the figures of a sheet as lines in the lent buffer, M lines first, then each currency's. A full one has a K line for
 // every class; a quiet one leaves out those of zeros.
+#![tactic(auto)]
+
 ghost use Rattle.std.specs.Prelude.{◌+◌, ◌≤◌, ◌<◌, ◌^◌, nat_abs, length};
 ghost use Rattle.paper.specs.Lists.{joined_up};
 ghost use Rattle.margin.specs.Openings.{from_rank};
@@ -19,8 +21,8 @@ fn put_mark(
     line: u64, // of the sheet, from 1
     mark: i64, // cents
 ) -> Place
-    requires mark_bound { (nat_abs mark < 2 ^ 63) × (money < 79_507) }
-    requires mark_in_bounds { at + length (marked margined line money mark) ≤ length report.old }
+    requires numbers { (nat_abs mark < 2 ^ 63) × (money < 79_507) }
+    requires room { at + length (marked margined line money mark) ≤ length report.old }
     ensures { Wrote (marked margined line money mark) at report.old result report.new }
 {
     if !margined {
@@ -32,7 +34,7 @@ fn put_mark(
 // The M lines of the margined trades, in sheet order.
 fn mark_lines(report: &mut [u8], tables: Tables, figures: Figures) -> Place
     requires writable { Writable tables figures }
-    requires count_in_bounds { length (joined_up (from_rank (mark_text tables figures) tables.trades.count 0)) ≤ length report.old }
+    requires room { length (joined_up (from_rank (mark_text tables figures) tables.trades.count 0)) ≤ length report.old }
     ensures { Wrote (joined_up (from_rank (mark_text tables figures) tables.trades.count 0)) 0 report.old result report.new }
 {
     let trades = tables.trades;
@@ -72,8 +74,8 @@ fn put_position(
     short: u64, // whole units
     margin: u64, // whole units
 ) -> Place
-    requires money_bound { money < 79_507 }
-    requires margin_in_bounds { at + length (listed_line full money class long short margin) ≤ length report.old }
+    requires currency { money < 79_507 }
+    requires room { at + length (listed_line full money class long short margin) ≤ length report.old }
     ensures { Wrote (listed_line full money class long short margin) at report.old result report.new }
 {
     let zeros = (long == 0) & (short == 0) & (margin == 0);
@@ -92,8 +94,8 @@ fn position_lines(
     classes: Classes,
     figures: Currency,
 ) -> Place
-    requires money_bound { (money < 79_507) × Classed classes }
-    requires count_in_bounds { from + length (joined_up (from_rank (position_text full money classes figures) classes.count 0)) ≤ length report.old }
+    requires classed { (money < 79_507) × Classed classes }
+    requires room { from + length (joined_up (from_rank (position_text full money classes figures) classes.count 0)) ≤ length report.old }
     ensures { Wrote (joined_up (from_rank (position_text full money classes figures) classes.count 0)) from report.old result report.new }
 {
     let rows = classes.rows;
@@ -129,7 +131,7 @@ fn currency_lines(
     figures: Figures,
 ) -> Place
     requires writable { Writable tables figures }
-    requires count_in_bounds { from + length (joined_up (from_rank (currency_text full tables figures) tables.securities.currencies.count 0)) ≤ length report.old }
+    requires room { from + length (joined_up (from_rank (currency_text full tables figures) tables.securities.currencies.count 0)) ≤ length report.old }
     ensures { Wrote (joined_up (from_rank (currency_text full tables figures) tables.securities.currencies.count 0)) from report.old result report.new }
 {
     let classes = tables.classes;
@@ -163,7 +165,7 @@ pub fn write(
     figures: Figures,
 ) -> Place
     requires writable { Writable tables figures }
-    requires figures_in_bounds { length (report_text full tables figures) ≤ length report.old }
+    requires room { length (report_text full tables figures) ≤ length report.old }
     ensures { Wrote (report_text full tables figures) 0 report.old result report.new }
 {
     let at = mark_lines(report, tables, figures);

@@ -1,5 +1,7 @@
 // Sections of a sheet: whether one goes on at a line, and how it went. How a section's loop goes, and how a row's fields are read,
 // is said once, over the row kind, in proofs.
+#![tactic(auto)]
+
 ghost use Rattle.std.specs.Prelude.{◌≡◌};
 ghost use Rattle.places.specs.Places.{ended_length};
 ghost use Rattle.sections.specs.Sections.{goes_on};

@@ -1,5 +1,7 @@
 // S rows: read from their lines, judged by those above and by the C rows, and put into their table, each with its class and the
 // place of its currency among the rising ones; the section is their table, or the refusal of one.
+#![tactic(auto)]
+
 ghost use Rattle.std.specs.Prelude.{◌≡◌, true, [], ◌≤◌, ◌<◌, length, take, drop};
 ghost use Rattle.paper.specs.Days.{new_years};
 ghost use Rattle.paper.specs.Refusals.{refused, security_kind};
@@ -17,7 +19,7 @@ use sections::{Number, Section};
 use tables::{Classes, Code, Currencies, Money, Securities, Security};
 
 // An S row.
-#[derive(Drop)]
+#[derive(Clone, Copy)]
 struct SecurityRow {
     pub code: Place, // where it stands
     pub number: Code,

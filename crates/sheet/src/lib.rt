@@ -1,4 +1,6 @@
 // A sheet, read: the header, the D row, then the sections C, O, S and T, and no line behind them.
+#![tactic(auto)]
+
 ghost use Rattle.std.specs.Prelude.{◌≡◌, ◌≤◌, ◌<◌, length, drop};
 ghost use Rattle.paper.specs.Days.{new_years, day};
 ghost use Rattle.paper.specs.Units.{Date};

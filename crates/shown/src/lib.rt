@@ -1,4 +1,6 @@
 // What the forecast prints: the text of the kit's answer, or `N;refusal;line` alone.
+#![tactic(auto)]
+
 ghost use Rattle.std.specs.Prelude.{◌≡◌, ◌/◌, ◌≤◌, ◌<◌, length};
 ghost use Rattle.io.specs.Counts.{IsPrefixLen};
 ghost use Rattle.paper.specs.Answer.{answer_by, explained, kit};
@@ -10,8 +12,8 @@ fn tell(
     number: u64, // of an entry
     out: &mut [u8],
 ) -> usize
-    requires { (32_768 ≤ length out.now) × (number / 65_536 < 100) }
-    ensures { Told number out.entry.now result out.exit.now }
+    requires { (32_768 ≤ length out.old) × (number / 65_536 < 100) }
+    ensures { Told number out.old result out.new }
 {
     if number < 65536 {
         return number as usize;
@@ -40,8 +42,8 @@ pub fn show(
     full: bool, // or quiet
 ) -> usize
     requires { 32_768 ≤ length out.old }
-    ensures wrote { Wrote (shown_text (answer_by full (length out.old) sheet.now)) 0 out.old result out.new }
-    ensures prefix_len { IsPrefixLen result out.new }
+    ensures written { Wrote (shown_text (answer_by full (length out.old) sheet.now)) 0 out.old result out.new }
+    ensures prefix { IsPrefixLen result out.new }
 {
     let number = ask(sheet, out, full);
     tell(number, out)
@@ -54,9 +56,9 @@ pub fn show_why(
     class: u64, // any number
     out: &mut [u8],
 ) -> usize
-    requires { 32_768 ≤ length out.now }
-    ensures wrote { Wrote (shown_text (explained (length out.entry.now) sheet.now currency.now class)) 0 out.entry.now result out.exit.now }
-    ensures prefix_len { IsPrefixLen result out.exit.now }
+    requires { 32_768 ≤ length out.old }
+    ensures written { Wrote (shown_text (explained (length out.old) sheet.now currency.now class)) 0 out.old result out.new }
+    ensures prefix { IsPrefixLen result out.new }
 {
     let number = kit::brm_explain(sheet, currency, class, out);
     tell(number, out)

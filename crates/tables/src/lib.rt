@@ -1,5 +1,7 @@
 // The tables of a sheet, as reading makes them and margining takes them. They hold values, and no place of a sheet: a code as one
 // number and a currency as another, dates as days, and what judging a row found out. Numbers are no wider than their range.
+#![tactic(auto)]
+
 ghost use Rattle.std.specs.Prelude.{◌≡◌, [], ◌≤◌, ◌<◌, take};
 ghost use Rattle.tables.specs.Numbers.{number_place};
 ghost use Rattle.tables.specs.Ranks.{Searchable, ranked_of, inserted_at};
@@ -12,7 +14,7 @@ pub type Money = u64; // a currency as one number, which orders as its bytes do
 pub type Factor = u64; // ten-thousandths
 
 // A C row.
-#[derive(Drop)]
+#[derive(Clone, Copy)]
 pub struct ClassRow {
     pub class: u64, // 1..40
     pub kind: u64, // 0 government, 1 corporate, 2 inflation linked, 3 floating
@@ -21,14 +23,14 @@ pub struct ClassRow {
 }
 
 // The C rows.
-#[derive(Drop)]
+#[derive(Clone, Copy)]
 pub struct Classes {
     pub count: usize, // rows
     pub rows: [ClassRow; 40],
 }
 
 // An O row.
-#[derive(Drop)]
+#[derive(Clone, Copy)]
 pub struct PriorityRow {
     pub first: u64, // class
     pub second: u64, // class
@@ -36,14 +38,14 @@ pub struct PriorityRow {
 }
 
 // The O rows.
-#[derive(Drop)]
+#[derive(Clone, Copy)]
 pub struct Priorities {
     pub count: usize, // rows
     pub rows: [PriorityRow; 200],
 }
 
 // The currencies of the S rows, rising.
-#[derive(Drop)]
+#[derive(Clone, Copy)]
 pub struct Currencies {
     pub count: usize, // currencies
     pub numbers: [Money; 8],
@@ -57,7 +59,7 @@ pub struct Standing {
 }
 
 // What valuing asks of an S row, with its class and the place of its currency among the rising ones.
-#[derive(Drop)]
+#[derive(Clone, Copy)]
 pub struct Security {
     pub price: u32, // hundred-thousandths of a percent
     pub coupon: u32, // hundred-thousandths of a percent a year
@@ -69,7 +71,7 @@ pub struct Security {
 }
 
 // The S rows, their codes in a column of their own, with the highest number behind them, and their currencies.
-#[derive(Drop)]
+#[derive(Clone, Copy)]
 pub struct Securities {
     pub count: usize, // rows
     pub rows: [Security; 200],
@@ -78,7 +80,7 @@ pub struct Securities {
 }
 
 // What valuing asks of a T row, with the place of its security, whether it is margined, and its accrual day.
-#[derive(Drop)]
+#[derive(Clone, Copy)]
 pub struct Trade {
     pub amount: u64, // cents
     pub rate: i64, // ten-thousandths of a percent; 0 for cash
@@ -92,14 +94,14 @@ pub struct Trade {
 }
 
 // The T rows.
-#[derive(Drop)]
+#[derive(Clone, Copy)]
 pub struct Trades {
     pub count: usize, // rows
     pub rows: [Trade; 500],
 }
 
 // All tables of a sheet.
-#[derive(Drop)]
+#[derive(Clone, Copy)]
 pub struct Tables {
     pub classes: Classes,
     pub priorities: Priorities,

@@ -1,5 +1,7 @@
 // T rows: read from their lines, judged by the S rows, and put into their table, each with the place of its security, whether it is
 // margined, and its accrual day; the section is their table, or the refusal of one.
+#![tactic(auto)]
+
 ghost use Rattle.std.specs.Prelude.{◌≡◌, cond, [], ◌≤◌, ◌<◌, pos, take, drop};
 ghost use Rattle.paper.specs.Days.{new_years, working_after};
 ghost use Rattle.paper.specs.Refusals.{refused, trade_kind};
@@ -242,8 +244,8 @@ pub fn trade_section(
     working: Day,
     securities: Securities,
 ) -> TradeSection
-    requires from_le_end { (from ≤ end) × (end ≡ ended_length s.now) × (years.now ≡ new_years) × (working ≡ working_after today) × (working < 150_000) }
-    requires count_bound { (securities.count ≤ 200) × Searchable securities.codes securities.count }
+    requires sheet_and_days { (from ≤ end) × (end ≡ ended_length s.now) × (years.now ≡ new_years) × (working ≡ working_after today) × (working < 150_000) }
+    requires codes { (securities.count ≤ 200) × Searchable securities.codes securities.count }
     ensures { result ≡ trade_section today (take securities.count securities.codes) s.now from (section (trade_kind today (period_in securities)) (0, lines (drop from s.now))) }
 {
     let codes = securities.codes;

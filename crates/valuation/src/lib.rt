@@ -1,5 +1,7 @@
 // One trade, valued: accrued coupon, revaluated amount, repo interest, sign and mark-to-market.
 // Whether it is margined, and to which day its coupon accrues, its row knows already.
+#![tactic(auto)]
+
 ghost use Rattle.std.specs.Prelude.{◌≡◌, true, ◌≤◌, nat_abs};
 ghost use Rattle.paper.specs.Valuation.{accrued as accrued_of, revaluated as revaluated_of, interest as interest_for, sign_of, mark_to_market};
 ghost use Rattle.paper.specs.Bounds.{most_quote, most_worth, most_interest_days, most_interest};

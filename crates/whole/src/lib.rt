@@ -1,5 +1,7 @@
 // Arithmetic with no finance in it: rounding, least and greatest, and signed numbers.
 // A number's unit is its caller's: what is divided has the unit of the quotient times that of the divisor.
+#![tactic(auto)]
+
 ghost use Rattle.std.specs.Prelude.{◌≡◌, ◌+◌, ◌*◌, ◌<◌, ◌^◌, min, max, pos, neg_ℤ, nat_abs, ◌+ℤ◌, ◌-ℤ◌, ◌*ℤ◌};
 ghost use Rattle.paper.specs.Rounding.{nearest as nearest_of, rounded as rounded_of};
 ghost use Rattle.paper.specs.Signs.{above_zero, below_zero};
