@@ -14,12 +14,9 @@ use lib.Seq.{drop-cons, set_out}
 use Rattle.paper.specs.Units.{Text}
 use Rattle.paper.specs.Text.{LF, semicolon}
 use Rattle.places.specs.Places.{Place, ends_from, last_place, line_at}
-use Rattle.places.proofs.line_at.Statement.{statement}
-use Rattle.places.proofs.line_at.Tie as tie
-
--- The first ten of a list of places, with 0 where it has fewer
-abbrev ten : List Place → List Place
-ten ps = take 10 (ps ++ replicate 10 0)
+use Rattle.places.proofs.line_at.Invariants.{ten, Seen}
+use Rattle.places.proofs.line_at.Goals as goal
+use Rattle.places.proofs.line_at.Goals.{else-b-eq59, else-count-lt10, else-count-lt10-2, then-b-eq59, then-count-lt10, then-count-lt10-2}
 
 -- Zeros cut short
 take-zeros : (n m : ℕ) → n ≤ m → take {A = Place} n (replicate m 0) ≡ replicate n 0
@@ -45,16 +42,6 @@ last-place : (ps : List Place) (p : Place) → last_place (ps ++ (p ∷ [])) ≡
 last-place [] p = refl
 last-place (q ∷ []) p = refl
 last-place (q ∷ r ∷ ps) p = last-place (r ∷ ps) p
-
--- A line looked through up to a place
-record Seen (s : Text) (at end : ℕ) (ends : List Place) (count : ℕ) (i : Place) : Type 0 where
-  found : List Place
-  behind : at ≤ i
-  inside : i < end
-  number : count ≡ length found
-  few : at + count ≤ i
-  first : ends ≡ ten found
-  all : ends_from at (drop at s) ≡ found ++ ends_from i (drop i s)
 
 module _ (s : Text) (at end : ℕ) (ends : List Place) (count : ℕ) (i : Place) (most : end ≤ length s) (seen : Seen s at end ends count i) where
   -- Where an end is not stored, a store would change nothing
@@ -117,82 +104,22 @@ module _ (s : Text) (at end : ℕ) (ends : List Place) (count : ℕ) (i : Place)
           all = on (ends_from (i + 1) (drop (i + 1) s)) same;
         }
 
-abbrev invariant-loop2 : tie.invariant-loop2
-invariant-loop2 s at end ends₀ count₀ i₀ k₀ ends count i k = Seen s at end ends count i × (i ≡ i₀ + k) × (k ≤ 8)
-
-abbrev decreases-loop2 : tie.decreases-loop2
-decreases-loop2 s at end ends₀ count₀ i₀ k₀ ends count i k = 8 - k
-
-abbrev invariant-loop : tie.invariant-loop
-invariant-loop s at end ends₀ count₀ i₀ ends count i = Seen s at end ends count i
-
-abbrev decreases-loop : tie.decreases-loop
-decreases-loop s at end ends₀ count₀ i₀ ends count i = end - i
-
-loop-holds : tie.Need-loop-init invariant-loop2 decreases-loop2 invariant-loop decreases-loop
-loop-holds c =
-    record {
-      found = [];
-      behind = omega arith;
-      inside = omega arith;
-      number = refl;
-      few = omega arith;
-      first = refl;
-      all = refl;
-    }
-
-loop2-holds : tie.Need-loop2-init invariant-loop2 decreases-loop2 invariant-loop decreases-loop
-loop2-holds c = (c.loop.invariant, omega arith, omega arith)
-
-loop-again : tie.Need-loop-preserved invariant-loop2 decreases-loop2 invariant-loop decreases-loop
-loop-again c = c.before.loop2.invariant.0
-
-returns : tie.Need-returns invariant-loop2 decreases-loop2 invariant-loop decreases-loop
-returns c =
-    let a = c.before.before.before.before.before.before.args in
-    let l = c.before.before.before.before.loop2 in
+pub returns-then-b-eq10 : goal.returns-then-b-eq10
+returns-then-b-eq10 c =
+    let a = c.args in
+    let l = c.loop-k-2 in
     let kept = no_room a.s.now a.at a.end l.ends l.count l.i (omega arith) l.invariant.0 in
-    finished a.s.now a.at a.end l.ends l.count l.i (omega arith) l.invariant.0 c.before.if1.true c.if2.ends
-    (⊎_elim (λ w. w.1) (λ w. w.1 ∙ kept w.0.left) c.if2.branch)
+    finished a.s.now a.at a.end l.ends l.count l.i (omega arith) l.invariant.0 c.if-b-eq10.true c.if-count-lt10.ends
+    (elim c.if-count-lt10.branch [ then-count-lt10 w ↦ w.ends-is | else-count-lt10 w ↦ w.ends-is ∙ kept w.if-count-lt10.false ])
 
-loop2-again : tie.Need-loop2-preserved invariant-loop2 decreases-loop2 invariant-loop decreases-loop
-loop2-again c =
-    let f = c.before.before.before.before.before.before in
-    let a = f.args in
-    let l = c.before.before.before.before.loop2 in
+pub loop-k-2-preserved : goal.loop-k-2-preserved
+loop-k-2-preserved c =
+    let a = c.args in
+    let l = c.loop-k-2 in
     let kept = no_room a.s.now a.at a.end l.ends l.count l.i (omega arith) l.invariant.0 in
-    let marked' = marked a.s.now a.at a.end l.ends l.count l.i (omega arith) l.invariant.0 f.requires.2 c.before.if1.false in
-    let passed' = passed a.s.now a.at a.end l.ends l.count l.i (omega arith) l.invariant.0 f.requires.2 c.before.if1.false in (
-      ⊎_elim
-          (λ w. rw w.3 (marked' w.0.taken c.if3.ends (w.2 ∙ ⊎_elim (λ v. v.1) (λ v. v.1 ∙ kept v.0.left) w.1.came)))
-          (λ w. rw (w.1, w.2) (passed' w.0.left))
-          c.if3.branch,
+    let marked' = marked a.s.now a.at a.end l.ends l.count l.i (omega arith) l.invariant.0 c.requires.2 c.if-b-eq10.false in
+    let passed' = passed a.s.now a.at a.end l.ends l.count l.i (omega arith) l.invariant.0 c.requires.2 c.if-b-eq10.false in (
+      elim c.if-b-eq59.branch [ then-b-eq59 w ↦ rw w.count-is (marked' w.if-b-eq59.true c.if-b-eq59.ends (w.ends-is ∙ elim w.if-count-lt10-2.branch [ then-count-lt10-2 v ↦ v.ends-is | else-count-lt10-2 v ↦ v.ends-is ∙ kept v.if-count-lt10-2.false ])) | else-b-eq59 w ↦ rw (w.ends-is, w.count-is) (passed' w.if-b-eq59.false) ],
       omega arith,
       omega arith,
     )
-
-pub line-at-spec : {M : Type 1} → statement M
-line-at-spec =
-    tie.close
-    (tie.spec
-    invariant-loop2
-    decreases-loop2
-    invariant-loop
-    decreases-loop
-    loop-holds
-    loop2-holds
-    (λ c. omega arith)
-    loop-again
-    (λ c. omega arith)
-    (λ c. omega arith)
-    (λ c. omega arith)
-    (λ c. omega arith)
-    (λ c. omega arith)
-    returns
-    (λ c. omega arith)
-    (λ c. omega arith)
-    (λ c. omega arith)
-    (λ c. omega arith)
-    (λ c. omega arith)
-    (λ c. omega arith)
-    loop2-again)

@@ -10,13 +10,8 @@ use Rattle.paper.specs.Units.{Byte, Text}
 use Rattle.paper.specs.Text.{LF}
 use Rattle.places.specs.Places.{ended_length}
 use Rattle.places.proofs.Places.{ended_append, ended_other}
-use Rattle.places.proofs.ended.Statement.{statement}
-use Rattle.places.proofs.ended.Tie as tie
-
--- So many bytes are left, and the last LF is among them if there is one
-record Left (s : Text) (n : ℕ) : Type 0 where
-  within : n ≤ length s
-  same : ended_length s ≡ ended_length (take n s)
+use Rattle.places.proofs.ended.Invariants.{Left}
+use Rattle.places.proofs.ended.Goals as goal
 
 module _ (s : Text) (n : ℕ) (some : 0 < n) (l : Left s n) where
   -- Those that are left, by their last byte
@@ -41,44 +36,20 @@ module _ (s : Text) (n : ℕ) (some : 0 < n) (l : Left s n) where
         same = l.same ∙ ap ended_length last ∙ ended_other (take (n - 1) s) (get_or s (n - 1) 0) other;
       }
 
-abbrev invariant-loop : tie.invariant-loop
-invariant-loop s n₀ n = Left s n
+pub returns-then-s-n-eq10 : goal.returns-then-s-n-eq10
+returns-then-s-n-eq10 c =
+    let a = c.args in
+    let l = c.loop-n in
+    found a.s.now l.n (omega arith) l.invariant c.if-s-n-eq10.true
 
-abbrev decreases-loop : tie.decreases-loop
-decreases-loop s n₀ n = n
+pub loop-n-preserved : goal.loop-n-preserved
+loop-n-preserved c =
+    let a = c.args in
+    let l = c.loop-n in
+    passed a.s.now l.n (omega arith) l.invariant c.if-s-n-eq10.false
 
-loop-holds : tie.Need-loop-init invariant-loop decreases-loop
-loop-holds c = record { within = omega arith; same = sym (ap ended_length (take-length c.args.s.now)) }
-
-returns : tie.Need-returns invariant-loop decreases-loop
+pub returns : goal.returns
 returns c =
-    let a = c.before.before.before.before.args in
-    let l = c.before.before.before.loop in
-    found a.s.now l.n (omega arith) l.invariant c.if1.true
-
-loop-again : tie.Need-loop-preserved invariant-loop decreases-loop
-loop-again c =
-    let a = c.before.before.before.before.args in
-    let l = c.before.before.before.loop in
-    passed a.s.now l.n (omega arith) l.invariant c.if1.false
-
-returns-2 : tie.Need-returns-2 invariant-loop decreases-loop
-returns-2 c =
-    let l = c.before.loop in
+    let l = c.loop-n in
     let none : l.n ≡ 0 = omega arith in
-    sym (l.invariant.same ∙ ap (λ (k : ℕ). ended_length (take k c.before.before.args.s.now)) none)
-
-pub ended-spec : {M : Type 1} → statement M
-ended-spec =
-    tie.close
-    (tie.spec
-    invariant-loop
-    decreases-loop
-    loop-holds
-    (λ c. omega arith)
-    (λ c. omega arith)
-    returns
-    (λ c. omega arith)
-    (λ c. omega arith)
-    loop-again
-    returns-2)
+    sym (l.invariant.same ∙ ap (λ (k : ℕ). ended_length (take k c.args.s.now)) none)

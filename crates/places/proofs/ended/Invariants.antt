@@ -1,0 +1,24 @@
+-- `places::ended` meets its contract. The loop's invariant: the bytes that were passed, from the end, hold no LF.
+-- The measure is the bytes left.
+use Prim.Native.Nat.{ℕ, suc, ◌-◌, ◌≤◌, ◌<◌}
+use native.Mathlib.Omega.{arith}
+use mathlib.Core.List.{[], ◌∷◌, ◌++◌}
+use mathlib.Core.Path.{◌≡◌, sym, ap, ◌∙◌}
+use lib.ListN.{length, get_or, take}
+use lib.Seq.{take-suc, take-length, length-take-le}
+use Rattle.paper.specs.Units.{Byte, Text}
+use Rattle.paper.specs.Text.{LF}
+use Rattle.places.specs.Places.{ended_length}
+use Rattle.places.proofs.Places.{ended_append, ended_other}
+use Rattle.places.proofs.ended.Given as goal
+
+-- So many bytes are left, and the last LF is among them if there is one
+pub record Left (s : Text) (n : ℕ) : Type 0 where
+  pub within : n ≤ length s
+  pub same : ended_length s ≡ ended_length (take n s)
+
+abbrev pub invariant-loop-n : goal.invariant-loop-n
+invariant-loop-n l = Left l.s l.n
+
+abbrev pub decreases-loop-n : goal.decreases-loop-n
+decreases-loop-n l = l.n
