@@ -27,6 +27,10 @@ class_back c h = go c.kind c.border h
     go corporate (some d) h = refl
     go inflation none h = refl
     go floating none h = refl
+    go government none h = elim h [ ]
+    go corporate none h = elim h [ ]
+    go inflation (some d) h = elim h [ ]
+    go floating (some d) h = elim h [ ]
 
 -- So are all
 classes_back : (cs : List paper.ClassRow) → Each (λ c. T (is_duration c.kind c.border)) cs → map paper_class (map held_class cs) ≡ cs

@@ -42,6 +42,7 @@ module _ {A : Type 0} where
   pub stands_each : {P : A → Type 0} {x : A} {xs : List A} {k : ℕ} → Each P xs → Stands x xs k → P x
   stands_each (cons p ps) here = p
   stands_each (cons p ps) (there s) = stands_each ps s
+  stands_each nil s = elim s [ ]
 
   -- ... and what is true of whatever stands somewhere is true of each
   pub each_standing : {P : A → Type 0} (xs : List A) → ((k : ℕ) (x : A) → Stands x xs k → P x) → Each P xs
@@ -111,25 +112,25 @@ pub data Rises : ℕ → List ℕ → Type 0 where
   one_more : {low n : ℕ} {ns : List ℕ} → low ≤ n → Rises (suc n) ns → Rises low (n ∷ ns)
 
 module _ {A : Type 0} (key : A → ℕ) where
-  rises_low : {low : ℕ} {x : A} {xs : List A} {k : ℕ} → Stands x xs k → Rises low (map key xs) → low ≤ key x
+  rises_low : {x : A} {low : ℕ} {xs : List A} {k : ℕ} → Stands x xs k → Rises low (map key xs) → low ≤ key x
   rises_low here (one_more p r) = p
-  rises_low (there s) (one_more p r) = omega (arith, rises_low s r)
+  rises_low (there {y = y} s) (one_more p r) = omega (arith, rises_low {low = suc (key y)} s r)
 
   -- The place of an entry's number is its own
-  pub rises_place : {low : ℕ} {x : A} {xs : List A} {k : ℕ} → Stands x xs k → Rises low (map key xs) → number_place (map key xs) (key x) ≡ k
+  pub rises_place : {x : A} {low : ℕ} {xs : List A} {k : ℕ} → Stands x xs k → Rises low (map key xs) → number_place (map key xs) (key x) ≡ k
   rises_place {x = x} here (one_more p r) = rw (eq-eqb (key x) (key x) refl, number_place)
-  rises_place {x = x} (there {y} s) (one_more p r) =
-      rw (ne_eqb (key y) (key x) (λ e. omega (arith, rises_low s r)), number_place) (ap suc (rises_place s r))
+  rises_place {x = x} (there {y = y} s) (one_more p r) =
+      rw (ne_eqb (key y) (key x) (λ e. omega (arith, rises_low s r)), number_place) (ap suc (rises_place {low = suc (key y)} s r))
 
   -- Two numbers are equal where their places are
-  pub rises_same : {low : ℕ} {x y : A} {xs : List A} {j k : ℕ} → Stands x xs j → Stands y xs k → Rises low (map key xs)
+  pub rises_same : {x y : A} {low : ℕ} {xs : List A} {j k : ℕ} → Stands x xs j → Stands y xs k → Rises low (map key xs)
       → eqb (key x) (key y) ≡ eqb j k
   rises_same {x = x} here here (one_more p r) = eq-eqb (key x) (key x) refl
   rises_same {x = x} {y} here (there {k} s) (one_more p r) =
       ne_eqb (key x) (key y) (λ e. omega (arith, rises_low s r)) ∙ sym (ne_eqb 0 (suc k) (λ e. omega arith))
   rises_same {x = x} {y} (there {k = j} s) here (one_more p r) =
       ne_eqb (key x) (key y) (λ e. omega (arith, rises_low s r)) ∙ sym (ne_eqb (suc j) 0 (λ e. omega arith))
-  rises_same (there {k = j} s) (there {k = k} t) (one_more p r) = rises_same s t r ∙ sym (eqb-suc-suc j k)
+  rises_same (there {y = y} {k = j} s) (there {k = k} t) (one_more p r) = rises_same {low = suc (key y)} s t r ∙ sym (eqb-suc-suc j k)
 
 -- ---- currencies
 
@@ -137,7 +138,7 @@ module _ {A : Type 0} (key : A → ℕ) where
 placed_rises : {low : ℕ} (c : Currency) (ds : List Currency) → is_currency c ≡ true → Each (λ d. is_currency d ≡ true) ds
     → low ≤ currency_number c → Rises low (map currency_number ds) → Rises low (map currency_number (placed c ds))
 placed_rises c [] p nil l no_more = one_more l no_more
-placed_rises {low} c (d ∷ ds) p (cons q qs) l (one_more k rest) = go (compared c d) (placed_rises c ds p qs)
+placed_rises {low} c (d ∷ ds) p (cons q qs) l (one_more k rest) = go (compared c d) (placed_rises {low = suc (currency_number d)} c ds p qs)
   where
     below : (a b : Currency) → is_currency a ≡ true → is_currency b ≡ true → before a b ≡ true → suc (currency_number a) ≤ currency_number b
     below a b i j e = ltb-true (currency_number a) (currency_number b) (sym (currency_number_before a b i j) ∙ e)
@@ -179,9 +180,9 @@ currency_stands {s} {ss} at rise =
 codes_from : (cs : List ClassRow) {low : ℕ} (above ss : List SecurityRow) → T (hold_down (security_kind cs) above ss)
     → ((s : SecurityRow) → T (hold (rules_of (security_kind cs) above s)) → low ≤ code_number s.code) → Rises low (codes_of ss)
 codes_from cs above [] h lowest = no_more
-codes_from cs above (s ∷ ss) h lowest =
+codes_from cs {low = low} above (s ∷ ss) h lowest =
     let own : T (hold (rules_of (security_kind cs) above s)) = search tests in
-    one_more (lowest s own) (codes_from cs (s ∷ above) ss (search tests) (λ r g. behind r own g))
+    one_more (lowest s own) (codes_from cs {low = suc (code_number s.code)} (s ∷ above) ss (search tests) (λ r g. behind r own g))
   where
     behind : (r : SecurityRow) → T (hold (rules_of (security_kind cs) above s)) → T (hold (rules_of (security_kind cs) (s ∷ above) r))
         → suc (code_number s.code) ≤ code_number r.code

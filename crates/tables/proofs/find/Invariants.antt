@@ -1,6 +1,5 @@
 -- `tables::find` meets its contract. The loop's invariant: all codes before `low` are below the code, and none is from the last of
 -- the next `size` on, of which there are a power of four. The measure is `size`.
-
 use Prim.Native.Nat.{ℕ, suc, ◌+◌, ◌*◌, ◌/◌, ◌≤◌, ◌<◌}
 use native.Mathlib.Omega.{arith}
 use mathlib.Core.Logic.{inl, inr, ⊎_elim}

@@ -1,6 +1,5 @@
 -- `tables::inserted` meets its contract. The loop's invariant: putting what is moved in at `i` gives what is to be given. The
 -- measure is the places left.
-
 use Prim.Native.Nat.{ℕ, zero, suc, ◌+◌, ◌-◌, ◌≤◌}
 use native.Mathlib.Numerals.{add-one}
 use native.Mathlib.Omega.{arith}
@@ -20,4 +19,4 @@ pub returns : goal.returns
 returns c =
     let l = c.loop-i in
     ap₂ (λ (n : ℕ) (ns : List ℕ). record { count = n; numbers = ns }) (add-one _)
-    (sym (l.invariant.1 ∙ behind-last l.numbers-1 l.i l.moved (omega arith)))
+    (sym (l.invariant.1 ∙ behind-last l.numbers l.i l.moved (omega arith)))
