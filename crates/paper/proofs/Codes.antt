@@ -11,8 +11,8 @@ use borrow.Author.Tests.{eqb-true, eqb-false, eq-eqb, ne_eqb, lt-leb, ltb-true, 
 use lib.Dec.{eqb, ltb}
 use Rattle.paper.specs.Units.{Byte, Digit, Text}
 use Rattle.paper.specs.Lists.{joined_up}
-use Rattle.paper.specs.Text.{is_digit, is_letter, in_digits, doubled, counted, has_check_digit, is_code}
-use Rattle.paper.specs.Codes.{alike, hidden, Checked}
+use Rattle.paper.specs.Text.{has_code_form, is_digit, is_letter, in_digits, doubled, counted, has_check_digit, is_code}
+use Rattle.paper.specs.Codes.{Codes, alike, hidden, Checked}
 use Rattle.paper.proofs.Lists.{never, bounds, joined_parts}
 
 -- Which is doubled first behind so many digits
@@ -279,3 +279,8 @@ module _ (s t : Text) where
 pub checked : Checked
 unfolding is_code
 checked = record { refused = λ t h. simp (h, and-false); changed = changed; swapped = swapped }
+
+-- The claim
+pub codes : Codes
+unfolding has_code_form has_check_digit is_code
+codes = (refl, refl, refl, refl, refl, refl, refl, refl, refl, refl, refl, refl)

@@ -1,4 +1,7 @@
 pub mod Lists
+pub mod Figures
+pub mod Example
+pub mod Limits
 pub mod Rounding
 pub mod Sizes
 pub mod Days

@@ -1,5 +1,5 @@
 -- Laws of an explanation's nets: what they add up to, whose they are, and which are left out.
-use Prim.Native.Nat.{zero, suc, ◌+◌, ◌-◌, ◌≤◌}
+use Prim.Native.Nat.{zero, suc, ◌+◌, ◌≤◌}
 use native.Mathlib.Omega.{arith}
 use mathlib.Core.Bool.{Bool, true, false}
 use mathlib.Core.List.{List, [], ◌∷◌, map}

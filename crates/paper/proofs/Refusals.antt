@@ -3,11 +3,10 @@ use Prim.Native.Nat.{suc, ◌+◌, ◌≤◌, ◌<◌}
 use native.Mathlib.Omega.{arith}
 use mathlib.Core.List.{List, [], ◌∷◌, ◌++◌, map, tail}
 use mathlib.Core.Path.{◌≡◌, refl, ap}
-use lib.Dec.{T}
 use lib.ListN.{length, drop, get_or, length-append, length-drop, length-map}
 use Rattle.paper.specs.Units.{Text, Fields, Line, Date}
 use Rattle.paper.specs.Days.{day}
-use Rattle.paper.specs.Text.{ascii, lines}
+use Rattle.paper.specs.Text.{lines}
 use Rattle.paper.specs.Rows.{Tables, write_class, write_priority, write_security, write_trade}
 use Rattle.paper.specs.Refusals.{accepted, date_kind, class_kind, priority_kind, security_kind, trade_kind, period_of}
 use Rattle.paper.specs.Sheet.{Rest, header_rules, header, date_row, section, end_rules, ended, row, read_sheet}

@@ -5,13 +5,12 @@ use mathlib.Core.Bool.{true}
 use mathlib.Core.List.{List, [], ◌∷◌}
 use mathlib.Core.Option.{Option, some, some-injective}
 use mathlib.Core.Path.{◌≡◌, refl, sym, ap, ◌∙◌, subst}
-use lib.Dec.{T}
 use lib.ListN.{length}
 use Rattle.paper.specs.Units.{Text, Fields, Date, Day, Code}
 use Rattle.paper.specs.Days.{is_day}
 use Rattle.paper.specs.Text.{ascii, number_in, date_in, signed_in, or_blank, digits, signed_digits}
 use Rattle.paper.specs.Rows.{ClassRow, PriorityRow, SecurityRow, TradeRow, field, kind_in, trade_in, side_in}
-use Rattle.paper.specs.Rows.{read_date, write_date, read_class, write_class, read_priority, write_priority, read_security, write_security, read_trade, write_trade}
+use Rattle.paper.specs.Rows.{write_date, read_class, write_class, read_priority, write_priority, read_security, write_security, read_trade, write_trade}
 use Rattle.paper.specs.Refusals.{Period, date_kind, class_kind, priority_kind, security_kind, trade_kind}
 use Rattle.paper.specs.Sheet.{begins}
 use Rattle.paper.specs.Lists.{nil, cons}

@@ -1,5 +1,5 @@
 -- On one line the smallest number is given.
-use Prim.Native.Nat.{ℕ, ◌<◌}
+use Prim.Native.Nat.{◌<◌}
 use native.Mathlib.Omega.{arith}
 use mathlib.Core.Bool.{Bool, true, false, ◌&&◌}
 use mathlib.Core.List.{List, [], ◌∷◌}
@@ -8,9 +8,9 @@ use mathlib.Core.Path.{◌≡◌, refl, ◌∙◌}
 use borrow.Author.Tests.{leb-true, eq-eqb, ne_eqb}
 use lib.Dec.{leb, eqb}
 use lib.ListN.{length, drop}
-use Rattle.paper.specs.Units.{Text, Fields, Number, Line}
+use Rattle.paper.specs.Units.{Number, Line}
 use Rattle.paper.specs.Lists.{first_that, given}
-use Rattle.paper.specs.Text.{ascii, lines}
+use Rattle.paper.specs.Text.{lines}
 use Rattle.paper.specs.Refusals.{Outcome, refused, accepted, Rule, judged, RowKind, rules_of, date_kind, class_kind, priority_kind, security_kind, trade_kind}
 use Rattle.paper.specs.Sheet.{begins, header_rules}
 use Rattle.paper.specs.Answer.{room_rules}

@@ -4,13 +4,11 @@ use native.Mathlib.Nat.{add-zero, add-suc, suc-add}
 use native.Mathlib.Omega.{arith}
 use mathlib.Core.Bool.{Bool, true, false}
 use mathlib.Core.List.{List, [], ◌∷◌, reverse, tail}
-use mathlib.Core.Option.{Option}
 use mathlib.Core.Path.{◌≡◌, refl, subst}
 use lib.Dec.{eqb-suc-zero}
 use lib.ListN.{length, get_or, take}
-use Rattle.paper.specs.Units.{Text, Fields, Number, Line, Date}
+use Rattle.paper.specs.Units.{Fields, Number, Line, Date}
 use Rattle.paper.specs.Days.{day}
-use Rattle.paper.specs.Text.{ascii}
 use Rattle.paper.specs.Rows.{Tables}
 use Rattle.paper.specs.Refusals.{Outcome, refused, accepted, ◌>>=◌, RowKind, date_kind, class_kind, priority_kind, security_kind, trade_kind, period_of}
 use Rattle.paper.specs.Sheet.{Rest, begins, row, rows_from, section, date_row, ended, read_tables}

@@ -9,10 +9,10 @@ use lib.Seq.{drop-drop}
 use lib.ListN.{length, get_or, take, drop, take-append-drop}
 use Rattle.paper.specs.Units.{Text, Fields, Date}
 use Rattle.paper.specs.Days.{day}
-use Rattle.paper.specs.Lists.{every, joined_up, Each}
+use Rattle.paper.specs.Lists.{every, joined_up}
 use Rattle.paper.specs.Text.{ascii, lines, line_of}
-use Rattle.paper.specs.Rows.{Tables, write_date, write_class, write_priority, write_security, write_trade, read_date, read_class, read_priority, read_security, read_trade}
-use Rattle.paper.specs.Refusals.{accepted, judged, RowKind, rules_of, period_of, date_kind, class_kind, priority_kind, security_kind, trade_kind}
+use Rattle.paper.specs.Rows.{Tables, write_date, write_class, write_priority, write_security, write_trade}
+use Rattle.paper.specs.Refusals.{accepted, RowKind, rules_of, period_of, date_kind, class_kind, priority_kind, security_kind, trade_kind}
 use Rattle.paper.specs.Sheet.{Rest, header_rules, header, row, section, date_row, end_rules, read_sheet}
 use Rattle.paper.specs.Tables.{rows_of, sheet_of, hold, hold_down, Admitted}
 use Rattle.paper.proofs.Lists.{tests, left, together, both, every_step, every_append, every_weaker, each_every}

@@ -1,5 +1,5 @@
 -- What is promised of the calendar (02, a): the first working day after a date, Easter, and which days are closed.
-use Rattle.std.specs.Prelude.{ℕ, zero, suc, ◌+◌, ◌*◌, ◌≤◌, ◌<◌, true, false, List, [], ◌∷◌, map, ◌≡◌, refl, replicate}
+use Rattle.std.specs.Prelude.{ℕ, zero, suc, ◌+◌, ◌*◌, ◌≤◌, ◌<◌, true, false, List, [], ◌∷◌, map, ◌≡◌, replicate}
 use Rattle.paper.specs.Units.{Date, Year, Day}
 use Rattle.paper.specs.Lists.{joined_up}
 use Rattle.paper.specs.Days.{day, easter, is_open, working_after}
@@ -82,8 +82,3 @@ Calendar =
     × (map (λ date. working_after (day date)) (20_190_418 ∷ 20_251_224 ∷ 20_231_222 ∷ []) ≡ map day (20_190_423 ∷ 20_251_229 ∷ 20_231_227 ∷ []))
     -- Over the turn of a year, and after the last calculation date
     × (map (λ date. working_after (day date)) (20_191_231 ∷ 20_211_231 ∷ 23_991_220 ∷ []) ≡ map day (20_200_102 ∷ 20_220_103 ∷ 23_991_221 ∷ []))
-
--- The claim
-pub calendar : Calendar
-unfolding is_open working_after
-calendar = (refl, refl, refl, refl, refl, refl)

@@ -1,16 +1,8 @@
 -- The sheet of document 01 in full, that its answer is the report printed there, and why each class's margin is what it is.
-use Rattle.std.specs.Prelude.{true, false, ◌≡◌, refl, [], ◌∷◌}
+use Rattle.std.specs.Prelude.{[], ◌∷◌}
 use Rattle.paper.specs.Units.{Text}
-use Rattle.paper.specs.Rounding.{nearest, rounded}
-use Rattle.paper.specs.Days.{is_open, working_after}
-use Rattle.paper.specs.Text.{ascii, lines, number_in, date_in, has_code_form, has_check_digit, is_code, digits}
-use Rattle.paper.specs.Valuation.{valued_from}
-use Rattle.paper.specs.Sheet.{rows_from, read_sheet}
-use Rattle.paper.specs.Offsetting.{summed, offset_row, offset_all}
-use Rattle.paper.specs.Report.{Listing, class_line, currency_lines, report_of}
+use Rattle.paper.specs.Text.{ascii}
 use Rattle.paper.specs.Lists.{joined_up}
-use Rattle.paper.specs.Explanation.{explanation_of, explanation_text}
-use Rattle.paper.specs.Answer.{answer_by, explained, accepted}
 
 -- The sheet
 abbrev pub sheet : Text
@@ -46,19 +38,3 @@ reason = joined_up (ascii "P;FR0011337880;1110160\n" ∷ ascii "R;6;300000;0\n" 
 -- ... and that of class 7: the same row took of its short
 abbrev pub short_reason : Text
 short_reason = joined_up (ascii "P;ZZ0000000016;-600000\n" ∷ ascii "R;6;0;300000\n" ∷ ascii "B;S;300000\n" ∷ [])
-
--- The report is that of the sheet, full and quiet: each class has something left
-pub printed : (listing : Listing) → answer_by listing 32_768 sheet ≡ accepted report
-unfolding nearest rounded is_open working_after lines number_in date_in has_code_form has_check_digit is_code digits valued_from rows_from read_sheet summed offset_row offset_all class_line currency_lines report_of
-printed true = refl
-printed false = refl
-
--- ... and the reason that of class 6
-pub explains : explained 32_768 sheet (ascii "EUR") 6 ≡ accepted reason
-unfolding nearest rounded is_open working_after lines number_in date_in has_code_form has_check_digit is_code digits valued_from rows_from read_sheet summed offset_row offset_all explanation_of explanation_text
-explains = refl
-
--- ... and of class 7
-pub explains_short : explained 32_768 sheet (ascii "EUR") 7 ≡ accepted short_reason
-unfolding nearest rounded is_open working_after lines number_in date_in has_code_form has_check_digit is_code digits valued_from rows_from read_sheet summed offset_row offset_all explanation_of explanation_text
-explains_short = refl

@@ -1,9 +1,8 @@
 -- The starred figures of document 01, 1 to 9, in one table that the checker computes.
-use Rattle.std.specs.Prelude.{ℕ, true, false, List, [], ◌∷◌, ◌≡◌, refl, ℤ, pos, neg_ℤ, set}
+use Rattle.std.specs.Prelude.{ℕ, true, false, List, [], ◌∷◌, ◌≡◌, ℤ, pos, neg_ℤ, set}
 use Rattle.std.proofs.Math.Option.{some}
 use Rattle.paper.specs.Units.{Class, Factor, Duration}
-use Rattle.paper.specs.Rounding.{nearest, rounded}
-use Rattle.paper.specs.Days.{day, is_day, is_open, working_after}
+use Rattle.paper.specs.Days.{day, is_day, working_after}
 use Rattle.paper.specs.Rows.{government, ClassRow, PriorityRow}
 use Rattle.paper.specs.Valuation.{accrued, revaluated, interest, net_of, class_of}
 use Rattle.paper.specs.Offsetting.{Book, flat, offset_row, offset_all}
@@ -47,8 +46,3 @@ Figures =
     × (offset_all (priority 6 7 10_000 ∷ priority 6 6 10_000 ∷ []) (two 100 100 100) ≡ two 0 100 0)
     × (working_after (day 20_190_614) ≡ day 20_190_617)  -- 9
     × (is_day 20_000_229 ≡ true) × (is_day 21_000_229 ≡ false)
-
--- The claim
-pub figures : Figures
-unfolding nearest rounded is_open working_after offset_row offset_all
-figures = (refl, refl, refl, refl, refl, refl, refl, refl, refl, refl, refl, refl, refl, refl, refl)

@@ -1,20 +1,20 @@
 -- The borders of document 01 in one table that the checker computes: what is just taken, what is just refused and by which
 -- number. A border moved in the paper and in the code alike is seen here.
-use Rattle.std.specs.Prelude.{ℕ, ◌+◌, ◌-◌, true, false, List, [], ◌∷◌, map, ◌≡◌, refl, eqb, pos, neg_ℤ, get_or, set, take, replicate}
+use Rattle.std.specs.Prelude.{ℕ, ◌+◌, ◌-◌, true, false, List, [], ◌∷◌, map, ◌≡◌, eqb, pos, neg_ℤ, get_or, set, take, replicate}
 use Prim.Native.String.{String}
 use Rattle.std.proofs.Math.Option.{Option, none, some}
 use Rattle.paper.specs.Units.{Text, Number, Line, Class, Duration, SignedCents, Whole}
 use Rattle.paper.specs.Lists.{joined_up, given}
 use Rattle.paper.specs.Signs.{above_zero, below_zero}
 use Rattle.paper.specs.Rounding.{less_than_half, tie, more_than_half, by_half, nearest, rounded}
-use Rattle.paper.specs.Days.{day, is_day, is_open, working_after}
-use Rattle.paper.specs.Text.{ascii, LF, semicolon, pieces, lines, parted, is_digit, is_letter, number_in, date_in, has_code_form, has_check_digit, is_code, digits}
+use Rattle.paper.specs.Days.{day, is_day, working_after}
+use Rattle.paper.specs.Text.{ascii, LF, semicolon, pieces, lines, parted, is_digit, is_letter, number_in}
 use Rattle.paper.specs.Rows.{Kind, government, corporate, inflation, floating, cash, seller, ClassRow, PriorityRow, SecurityRow, TradeRow, kind_in, read_priority}
-use Rattle.paper.specs.Valuation.{valued_from, valued_in}
+use Rattle.paper.specs.Valuation.{valued_in}
 use Rattle.paper.specs.Refusals.{Outcome, refused, accepted, Rule, judged, is_duration, rules_of, period_of, class_kind, priority_kind, security_kind, trade_kind}
-use Rattle.paper.specs.Sheet.{rows_from, read_sheet}
-use Rattle.paper.specs.Offsetting.{Book, position, summed, offset_row, offset_all, margin, total}
-use Rattle.paper.specs.Report.{full, quiet, is_listed, class_line, currency_lines, report_of}
+use Rattle.paper.specs.Sheet.{read_sheet}
+use Rattle.paper.specs.Offsetting.{Book, position, summed, offset_row, margin, total}
+use Rattle.paper.specs.Report.{full, quiet, is_listed}
 use Rattle.paper.specs.Explanation.{Took, by_long, by_short, by_both, is_net, took_any, setter_of}
 use Rattle.paper.specs.Answer.{answer, full_answer, explained, number_of, buffer_after}
 use Rattle.paper.specs.Quiet.{is_zero_line}
@@ -222,8 +222,3 @@ Limits =
     × (map (λ currency. explained 32_768 sheet (ascii currency) 6) ("EU" ∷ "EURO" ∷ "USD" ∷ "" ∷ []) ≡ replicate 4 (refused 13 0))
     × (map (λ n. explained 32_768 sheet (ascii "EUR") n) (0 ∷ 5 ∷ 8 ∷ []) ≡ replicate 3 (refused 13 0))
     × (explained 32_767 sheet (ascii "USD") 0 ≡ refused 1 0) × (explained 32_768 (changed 2 1 "19991231") (ascii "USD") 0 ≡ refused 7 2)
-
--- The claim
-pub limits : Limits
-unfolding nearest rounded is_open working_after lines number_in date_in has_code_form has_check_digit is_code digits valued_from rows_from read_sheet summed offset_row offset_all class_line currency_lines report_of
-limits = (refl, refl, refl, refl, refl, refl, refl, refl, refl, refl, refl, refl, refl, refl, refl, refl, refl, refl, refl, refl, refl, refl, refl, refl, refl, refl, refl, refl, refl, refl, refl, refl, refl, refl, refl, refl, refl, refl, refl, refl, refl, refl, refl, refl, refl, refl, refl, refl, refl, refl, refl, refl, refl, refl, refl, refl, refl, refl, refl, refl, refl, refl, refl, refl, refl, refl, refl, refl, refl, refl, refl, refl, refl, refl, refl, refl, refl, refl, refl, refl, refl, refl, refl, refl, refl, refl, refl, refl, refl, refl, refl, refl, refl, refl, refl, refl, refl, refl, refl, refl, refl, refl, refl, refl, refl, refl, refl)

@@ -2,7 +2,7 @@
 -- it the refusals 3 to 5. The earliest line that fails is refused, by its smallest number.
 use Rattle.std.specs.Prelude.{suc, Bool, true, false, ◌&&◌, eqb, length, get_or, take, drop}
 use mathlib.Core.List.{List, [], ◌∷◌, reverse, tail}
-use Rattle.std.proofs.Math.Option.{Option, none, some}
+use Rattle.std.proofs.Math.Option.{none, some}
 use Rattle.paper.specs.Units.{Text, Fields, Line, Date}
 use Rattle.paper.specs.Days.{day}
 use Rattle.paper.specs.Text.{ascii, lines, same}

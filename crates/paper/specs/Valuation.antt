@@ -1,5 +1,5 @@
 -- Valuation of a trade (01, "The rules", from Selection to Class; 002 decides).
-use Rattle.std.specs.Prelude.{suc, ◌+◌, ◌-◌, ◌*◌, Bool, true, false, not, ◌&&◌, List, [], ◌∷◌, map, leb, ltb, ℤ, pos, negsuc, ◌-ℤ◌, ◌*ℤ◌, length}
+use Rattle.std.specs.Prelude.{suc, ◌+◌, ◌-◌, ◌*◌, Bool, true, false, not, ◌&&◌, List, [], ◌∷◌, map, leb, ltb, pos, negsuc, ◌-ℤ◌, ◌*ℤ◌, length}
 use Rattle.std.proofs.Math.Option
 use Rattle.std.proofs.Math.Option.{Option, none, some, get_or}
 use Rattle.paper.specs.Units.{Line, Day, Days, Class, Code, Nominal, Quote, Payments, Duration, Rate, Sign, Cents, SignedCents, SignedWhole}

@@ -2,7 +2,7 @@
 // place of its currency among the rising ones; the section is their table, or the refusal of one.
 #![tactic(auto)]
 
-ghost use Rattle.std.specs.Prelude.{◌≡◌, true, [], ◌≤◌, ◌<◌, length, take, drop};
+ghost use Rattle.std.specs.Prelude.{◌≡◌, true, [], ◌≤◌, ◌<◌, take, drop};
 ghost use Rattle.paper.specs.Days.{new_years};
 ghost use Rattle.paper.specs.Refusals.{refused, security_kind};
 ghost use Rattle.paper.specs.Text.{lines};

@@ -1,11 +1,11 @@
 -- `places::ended` meets its contract. The loop's invariant: the bytes that were passed, from the end, hold no LF.
 -- The measure is the bytes left.
-use Prim.Native.Nat.{ℕ, suc, ◌-◌, ◌≤◌, ◌<◌}
+use Prim.Native.Nat.{ℕ, suc, ◌-◌, ◌<◌}
 use native.Mathlib.Omega.{arith}
 use mathlib.Core.List.{[], ◌∷◌, ◌++◌}
 use mathlib.Core.Path.{◌≡◌, sym, ap, ◌∙◌}
-use lib.ListN.{length, get_or, take}
-use lib.Seq.{take-suc, take-length, length-take-le}
+use lib.ListN.{get_or, take}
+use lib.Seq.{take-suc, length-take-le}
 use Rattle.paper.specs.Units.{Byte, Text}
 use Rattle.paper.specs.Text.{LF}
 use Rattle.places.specs.Places.{ended_length}

@@ -1,15 +1,10 @@
 -- `places::ended` meets its contract. The loop's invariant: the bytes that were passed, from the end, hold no LF.
 -- The measure is the bytes left.
-use Prim.Native.Nat.{ℕ, suc, ◌-◌, ◌≤◌, ◌<◌}
-use native.Mathlib.Omega.{arith}
-use mathlib.Core.List.{[], ◌∷◌, ◌++◌}
-use mathlib.Core.Path.{◌≡◌, sym, ap, ◌∙◌}
-use lib.ListN.{length, get_or, take}
-use lib.Seq.{take-suc, take-length, length-take-le}
-use Rattle.paper.specs.Units.{Byte, Text}
-use Rattle.paper.specs.Text.{LF}
+use Prim.Native.Nat.{ℕ, ◌≤◌}
+use mathlib.Core.Path.{◌≡◌}
+use lib.ListN.{length, take}
+use Rattle.paper.specs.Units.{Text}
 use Rattle.places.specs.Places.{ended_length}
-use Rattle.places.proofs.Places.{ended_append, ended_other}
 use Rattle.places.proofs.ended.Given as goal
 
 -- So many bytes are left, and the last LF is among them if there is one

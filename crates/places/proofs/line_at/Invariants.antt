@@ -1,19 +1,12 @@
 -- `places::line_at` meets its contract. The invariant of both loops: the ends that were found, and those of the rest of the line
 -- behind them, are the line's; `count` says how many were found, and `ends` has the first ten. The measure is the bytes left, up to
 -- `end` and of the eight.
-use Prim.Native.Nat.{ℕ, zero, suc, ◌+◌, ◌-◌, ◌≤◌, ◌<◌}
-use native.Mathlib.Nat.{le_of_suc-le-suc, not-suc-le-zero}
-use native.Mathlib.Numerals.{add-one}
-use native.Mathlib.Omega.{arith}
-use mathlib.Core.List.{List, [], ◌∷◌, ◌++◌, append_assoc}
-use mathlib.Core.Logic.{⊎_elim}
-use mathlib.Core.Path.{◌≡◌, refl, sym, ap, ◌∙◌}
-use borrow.Author.Tests.{eq-eqb, ne_eqb}
-use lib.ListN.{length, get_or, take, drop, set, replicate, length-append, length-take}
-use lib.Seq.{drop-cons, set_out}
+use Prim.Native.Nat.{ℕ, ◌+◌, ◌-◌, ◌≤◌, ◌<◌}
+use mathlib.Core.List.{List, ◌++◌}
+use mathlib.Core.Path.{◌≡◌}
+use lib.ListN.{length, take, drop, replicate}
 use Rattle.paper.specs.Units.{Text}
-use Rattle.paper.specs.Text.{LF, semicolon}
-use Rattle.places.specs.Places.{Place, ends_from, last_place, line_at}
+use Rattle.places.specs.Places.{Place, ends_from}
 use Rattle.places.proofs.line_at.Given as goal
 
 -- The first ten of a list of places, with 0 where it has fewer

@@ -2,10 +2,9 @@
 -- the next `size` on, of which there are a power of four. The measure is `size`.
 use Prim.Native.Nat.{ℕ, suc, ◌+◌, ◌*◌, ◌/◌, ◌≤◌, ◌<◌}
 use native.Mathlib.Omega.{arith}
-use mathlib.Core.Logic.{inl, inr, ⊎_elim}
+use mathlib.Core.Logic.{inl, inr}
 use mathlib.Core.List.{List}
 use mathlib.Core.Path.{◌≡◌, refl}
-use lib.ListN.{length}
 use Rattle.tables.proofs.Codes.{Below, Above, none_above, quarters, found, missing}
 use Rattle.tables.proofs.find.Invariants.{Sized, all, quarter, sixteenth, four, one}
 use Rattle.tables.proofs.find.Goals as goal

@@ -1,11 +1,9 @@
 -- `tables::find` meets its contract. The loop's invariant: all codes before `low` are below the code, and none is from the last of
 -- the next `size` on, of which there are a power of four. The measure is `size`.
-use Prim.Native.Nat.{ℕ, suc, ◌+◌, ◌*◌, ◌/◌, ◌≤◌, ◌<◌}
-use native.Mathlib.Omega.{arith}
-use mathlib.Core.Logic.{inl, inr, ⊎_elim}
-use mathlib.Core.Path.{◌≡◌, refl}
+use Prim.Native.Nat.{ℕ, ◌+◌, ◌≤◌}
+use mathlib.Core.Path.{◌≡◌}
 use lib.ListN.{length}
-use Rattle.tables.proofs.Codes.{Below, Above, none_above, quarters, found, missing}
+use Rattle.tables.proofs.Codes.{Below, Above}
 use Rattle.tables.proofs.find.Given as goal
 
 -- The sizes that the turns come by

@@ -1,11 +1,11 @@
 -- `tables::inserted` meets its contract. The loop's invariant: putting what is moved in at `i` gives what is to be given. The
 -- measure is the places left.
-use Prim.Native.Nat.{ℕ, zero, suc, ◌+◌, ◌-◌, ◌≤◌}
+use Prim.Native.Nat.{ℕ, zero, suc, ◌≤◌}
 use native.Mathlib.Numerals.{add-one}
 use native.Mathlib.Omega.{arith}
 use mathlib.Core.List.{List, [], ◌∷◌}
 use mathlib.Core.Path.{◌≡◌, refl, sym, ap, ap₂, ◌∙◌}
-use lib.ListN.{length, get_or, set, length-set, length-map}
+use lib.ListN.{length}
 use Rattle.tables.specs.Ranks.{put_in}
 use Rattle.tables.proofs.inserted.Goals as goal
 

@@ -1,11 +1,9 @@
 -- `nearest` meets its contract: its tests are those of the paper's three cases. What goes up is not above the product, so it fits.
 use Prim.Native.Nat.{◌+◌, ◌/◌}
-use borrow.Author.Rules.{rules}
-use native.Mathlib.Nat.{mod-lt}
 use native.Mathlib.Omega.{arith}
 use mathlib.Core.Path.{◌≡◌, sym}
 use Rattle.paper.specs.Rounding.{nearest}
-use Rattle.paper.proofs.Rounding.{nearest_less, nearest_tie, nearest_more, nearest_below}
+use Rattle.paper.proofs.Rounding.{nearest_less, nearest_tie, nearest_more}
 use Rattle.whole.proofs.nearest.Goals as goal
 
 -- The answer in the two cases that go up

@@ -1,11 +1,6 @@
 -- `rounded` meets its contract: the side that the sign's test shows is rounded, and its sign put back.
 use Prim.Native.Nat.{ℕ}
-use borrow.Author.Rules.{rules}
-use native.Mathlib.Omega.{arith}
-use mathlib.Core.Path.{ap}
-use lib.IntN.{pos, neg_ℤ, nat_abs}
-use mir.Syntax.{w64}
-use mir.ValLaws.{to_z-of_z}
+use lib.IntN.{pos, neg_ℤ}
 use Rattle.paper.specs.Signs.{above_zero, below_zero}
 use Rattle.paper.proofs.Sizes.{above_within, below_within}
 use Rattle.whole.proofs.Signs.{test_on}
