@@ -1,29 +1,21 @@
 -- `days::easter` meets its contract: its steps are the paper's, and each sum is of a day of the 400 years and few days.
-
-use Prim.Native.Nat.{ℕ, suc, ◌+◌, ◌-◌, ◌≤◌, ◌<◌}
-use native.Mathlib.Numerals.{add-one}
+use Prim.Native.Nat.{ℕ, ◌+◌, ◌≤◌, ◌<◌}
 use native.Mathlib.Omega.{arith}
-use mathlib.Core.Path.{◌≡◌, refl, sym, ap, subst, subst⁻¹, ◌∙◌}
-use borrow.Author.Rules.{rules}
-use Rattle.paper.specs.Units.{Day, Days}
-use Rattle.paper.specs.Days.{day_in, spring_moon, sunday_after, weekday}
+use mathlib.Core.Path.{◌≡◌}
+use Rattle.paper.specs.Units.{Year}
+use Rattle.paper.specs.Days.{day_in, spring_moon}
 use Rattle.paper.proofs.Calendar.{moon_below}
-use Rattle.days.proofs.Years.{real_day}
 use Rattle.days.proofs.easter.Goals as goal
 
 -- The moon's day as the code has it is below what the paper's is
-moon-fits : (c : tie.After-spring-moon) → c.day_in.result + c.spring_moon.result < 146_125
-moon-fits c =
-    let y = c.args.y in
-    subst⁻¹ (λ (d : Day). d < 146_125)
-    (ap (λ (d : Day). d + c.spring_moon.result) c.day_in.ensures ∙ ap (λ (m : Days). day_in y 2 20 + m) c.spring_moon.ensures)
-    (moon_below y c.requires.in_range)
+moon-fits : (y : Year) (march moon : ℕ) → (2000 ≤ y) × (y ≤ 2399) → march ≡ day_in y 2 20 → moon ≡ spring_moon y → march + moon < 146_125
+moon-fits y march moon r p q = rw (p, q) (moon_below y r)
 
 pub overflow_add-moon : goal.overflow_add-moon
-overflow_add-moon c = omega (arith, moon-fits c)
+overflow_add-moon c = omega (arith, moon-fits c.args.y _ _ c.requires.in_range c.day_in.ensures c.spring_moon.ensures)
 
 pub overflow_add-next : goal.overflow_add-next
-overflow_add-next c = omega (arith, moon-fits c)
+overflow_add-next c = omega (arith, moon-fits c.args.y _ _ c.requires.in_range c.day_in.ensures c.spring_moon.ensures)
 
 pub overflow_add-result : goal.overflow_add-result
-overflow_add-result c = omega (arith, moon-fits c)
+overflow_add-result c = omega (arith, moon-fits c.args.y _ _ c.requires.in_range c.day_in.ensures c.spring_moon.ensures)

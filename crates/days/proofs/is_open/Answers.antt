@@ -1,12 +1,9 @@
 -- `days::is_open` meets its contract: its tests are those of the paper's `is_open`.
-
 use Prim.Native.Nat.{ℕ, ◌≤◌, ◌<◌}
 use native.Mathlib.Omega.{arith}
-use mathlib.Core.Bool.{Bool, true, false, not, ◌&&◌}
+use mathlib.Core.Bool.{false, not}
 use mathlib.Core.Path.{◌≡◌, refl, ap, subst, subst⁻¹, ◌∙◌}
-use borrow.Author.Rules.{rules}
 use borrow.Author.Tests.{lt-ltb, le-ltb}
-use lib.Dec.{ltb}
 use Rattle.paper.specs.Units.{Year, Day}
 use Rattle.paper.specs.Days.{weekday, year_of, is_closing, is_open}
 use Rattle.paper.proofs.Calendar.{year_between}
@@ -28,7 +25,7 @@ returns-then-weekday-gt4 c =
 
 pub is_closing-requires : goal.is_closing-requires
 is_closing-requires c =
-    (c.requires.table, subst⁻¹ (λ (y : Year). (2000 ≤ y) × (y ≤ 2399)) c.year_of.ensures (year_between c.args.day))
+    record { table = c.requires.table; in_range = subst⁻¹ (λ (y : Year). (2000 ≤ y) × (y ≤ 2399)) c.year_of.ensures (year_between c.args.day) }
 
 pub returns : goal.returns
 returns c =

@@ -1,10 +1,9 @@
 -- `days::year_of` meets its contract: the guess, by the table that is lent.
 
-use Prim.Native.Nat.{ℕ, ◌+◌, ◌/◌, ◌≤◌, ◌<◌}
+use Prim.Native.Nat.{◌+◌, ◌/◌, ◌≤◌, ◌<◌}
 use native.Mathlib.Omega.{arith}
 use mathlib.Core.List.{List}
-use mathlib.Core.Path.{◌≡◌, sym, subst}
-use borrow.Author.Rules.{rules}
+use mathlib.Core.Path.{sym, subst}
 use lib.ListN.{get_or}
 use Rattle.paper.specs.Units.{Day}
 use Rattle.days.proofs.Years.{year_guessed, year_next, year_last}
