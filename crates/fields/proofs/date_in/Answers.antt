@@ -4,7 +4,6 @@ use native.Mathlib.Omega.{arith}
 use mathlib.Core.Bool.{and-false}
 use mathlib.Core.Option.{none, some}
 use mathlib.Core.Path.{◌≡◌, sym, ◌∙◌}
-use borrow.Author.Rules.{rules}
 use borrow.Author.Tests.{eq-eqb, ne_eqb}
 use lib.ListN.{length}
 use lib.Seq.{slice, length-slice}
@@ -14,8 +13,7 @@ use Rattle.paper.specs.Text.{is_digit, decimal, date_in}
 use Rattle.paper.proofs.Lists.{when_some}
 use Rattle.fields.specs.Values.{digits_in}
 use Rattle.fields.proofs.Readings.{when_none, read_some}
-use Rattle.fields.proofs.date_in.Statement.{statement}
-use Rattle.fields.proofs.date_in.Tie as tie
+use Rattle.fields.proofs.date_in.Goals as goal
 
 -- Other than eight bytes are no date
 not_eight : (t : Text) → (length t ≡ 8 → ⊥) → date_in t ≡ 0
@@ -34,27 +32,22 @@ eight-digits t n l e =
     let w = when_some (every is_digit t) (decimal 0 t) n e in
     simp (eq-eqb (length t) 8 l, w.0) w.1
 
-returns : tie.Need-returns
+pub returns-then-end-at-ne8 : goal.returns-then-end-at-ne8
+returns-then-end-at-ne8 c =
+    let a = c.args in
+    let size = length-slice a.at a.end a.s.now (omega arith) in
+    sym (not_eight (slice a.at a.end a.s.now) (λ e. c.if-end-at-ne8.true (sym size ∙ e)))
+
+pub returns-then-n : goal.returns-then-n
+returns-then-n c =
+    let a = c.args in
+    let t = slice a.at a.end a.s.now in
+    sym (not-digits t (c.digits_in-n.ensures.highest c.if-n.true))
+
+pub returns : goal.returns
 returns c =
-    let a = c.before.before.args in
-    let size = length-slice a.at a.end a.s.now (omega arith) in
-    sym (not_eight (slice a.at a.end a.s.now) (λ e. c.if1.true (sym size ∙ e)))
-
-returns-2 : tie.Need-returns-2
-returns-2 c =
-    let a = c.before.before.before.before.args in
+    let a = c.args in
     let t = slice a.at a.end a.s.now in
-    sym (not-digits t (c.before.digits_in.ensures.1 c.if2.true))
-
-returns-3 : tie.Need-returns-3
-returns-3 c =
-    let a = c.before.before.before.before.args in
-    let t = slice a.at a.end a.s.now in
-    let n = c.before.digits_in.result in
+    let n = c.digits_in-n.result in
     let size = length-slice a.at a.end a.s.now (omega arith) in
-    sym (eight-digits t n (size ∙ c.before.before.if1.false) (read_some (digits_in t) n c.before.digits_in.ensures.0 c.if2.false))
-
-pub date-in-spec : {M : Type 1} → statement M
-date-in-spec =
-    tie.close
-    (tie.spec (λ c. search rules) returns (λ c κs. search rules) returns-2 returns-3)
+    sym (eight-digits t n (size ∙ c.if-end-at-ne8.false) (read_some (digits_in t) n c.digits_in-n.ensures.value c.if-n.false))
