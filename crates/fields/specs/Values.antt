@@ -1,12 +1,12 @@
 -- What stands in a field, as the code holds it: the paper's reading with the range that the rules ask for, as a plain number.
-use Rattle.std.specs.Prelude.{ℕ, zero, suc, ◌+◌, ◌*◌, Bool, true, false, cond, not, ◌&&◌, ◌||◌, List, [], ◌∷◌, reverse, eqb, ℤ, pos, take, drop}
+use Rattle.std.specs.Prelude.{ℕ, Bool, true, false, cond, not, [], ◌∷◌, eqb, ℤ, pos}
 use Rattle.std.proofs.Math.Option.{Option, none, some}
 use Rattle.paper.specs.Units.{Byte, Text, Duration, Rate}
 use Rattle.paper.specs.Lists.{between, every, when, ◌>>=◌}
-use Rattle.paper.specs.Text.{same, is_digit, is_letter, decimal, number_in, signed_in, in_digits, counted, has_check_digit, is_code, is_currency}
+use Rattle.paper.specs.Text.{same, is_digit, decimal, number_in, signed_in}
 use Rattle.paper.specs.Refusals.{is_rate}
 use Rattle.paper.specs.Signs.{above_zero}
-use Rattle.tables.specs.Numbers.{code_number, currency_number, highest}
+use Rattle.tables.specs.Numbers.{highest}
 
 -- What was read; the highest number of 64 bits, which no field reads as, where nothing was
 abbrev pub or_highest : Option ℕ → ℕ

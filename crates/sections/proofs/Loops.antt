@@ -30,11 +30,13 @@ use Rattle.sections.specs.declared.Section.{Section}
 hold_both : (rules more : List Rule) → T (hold rules) → T (hold more) → T (hold (rules ++ more))
 hold_both [] more h k = k
 hold_both ((number, true) ∷ rules) more h k = hold_both rules more h k
+hold_both ((number, false) ∷ rules) more h k = elim h [ ]
 
 -- Rules of which the first hold: the others decide
 judged_behind : {R : Type 0} (at : Line) (r : R) (rules more : List Rule) → T (hold rules) → judged at r (rules ++ more) ≡ judged at r more
 judged_behind at r [] more h = refl
 judged_behind at r ((number, true) ∷ rules) more h = judged_behind at r rules more h
+judged_behind at r ((number, false) ∷ rules) more h = elim h [ ]
 
 -- Rules of which one fails: it is the refusal, whatever others stand behind, and whatever the line is called
 judged_before : {R : Type 0} (at : Line) (r : R) (rules more : List Rule) (number line : ℕ) → judged 0 r rules ≡ refused number line
