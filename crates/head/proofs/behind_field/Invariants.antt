@@ -1,11 +1,8 @@
 -- `head::behind_field` meets its contract: what is passed over so far is no mark.
 use Prim.Native.Nat.{◌-◌}
-use native.Mathlib.Omega.{arith}
-use mathlib.Core.Path.{◌≡◌, sym, ◌∙◌}
-use borrow.Author.Rules.{rules}
+use mathlib.Core.Path.{◌≡◌}
 use lib.ListN.{length}
 use Rattle.head.specs.Fields.{behind_field}
-use Rattle.head.proofs.Fields.{at_mark, at_plain, at_end}
 use Rattle.head.proofs.behind_field.Given as goal
 
 abbrev pub invariant-loop-i : goal.invariant-loop-i

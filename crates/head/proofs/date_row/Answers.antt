@@ -1,10 +1,10 @@
 -- `head::date_row` meets its contract: its first field is the letter, and its second is read as a date and as a day.
-use Rattle.std.proofs.Common.{◌≡◌, ◌≤◌, ◌-◌, ℕ, List, ◌∷◌, Bool, true, length, get_or, sym, ap, ◌∙◌, arith}
+use Rattle.std.proofs.Common.{◌≡◌, ◌≤◌, ◌-◌, true, length, get_or, sym, ap, ◌∙◌, arith}
 use Rattle.std.proofs.Math.Seq.{slice}
 use Rattle.paper.specs.Units.{Text}
 use Rattle.paper.specs.Text.{LF, ascii, same}
 use Rattle.paper.proofs.Lists.{never}
-use Rattle.places.specs.Places.{Place, ended_length, Stands}
+use Rattle.places.specs.Places.{ended_length}
 use Rattle.places.proofs.Places.{ended_most}
 use Rattle.head.specs.Fields.{behind_field, two_fields}
 use Rattle.head.specs.declared.Two.{Two}
