@@ -1,5 +1,4 @@
 -- `trades::refused` meets its contract: a refusal, and an empty table.
-use borrow.Author.Rules.{rules}
 use Rattle.trades.proofs.refused.Goals as goal
 
 pub returns : goal.returns

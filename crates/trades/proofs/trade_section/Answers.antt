@@ -1,6 +1,6 @@
 -- `trades::trade_section` meets its contract. The loop's invariant: the table has the rows above, and the section goes on from
 -- `at`. The measure is the bytes left up to `end`.
-use Prim.Native.Nat.{ℕ, ◌<◌}
+use Prim.Native.Nat.{ℕ}
 use native.Mathlib.Omega.{arith}
 use mathlib.Core.Bool.{Bool, true, cond}
 use mathlib.Core.List.{List, []}
@@ -8,7 +8,6 @@ use mathlib.Core.Path.{◌≡◌, sym, ap, ◌∙◌}
 use lib.Dec.{eqb, ltb}
 use lib.ListN.{get_or, take}
 use Rattle.paper.specs.Units.{Text, Number, Day}
-use Rattle.paper.specs.Days.{working_after}
 use Rattle.paper.specs.Refusals.{refused}
 use Rattle.places.specs.Places.{Place, ended_length}
 use Rattle.tables.specs.Numbers.{number_place}
@@ -65,8 +64,8 @@ returns-then-number-ne0 c =
     let on = tested _ _ c.requires.sheet_and_days.1 c.goes_on.ensures ∙ c.loop-securities-test.true in
     let row = there a.today a.securities turn on c.trade_row-read.ensures c.in-Row.is in
     let number_is = judged a.today a.working a.securities c.in-Row.row
-        c.find-place.ensures c.place_or_first-known.ensures c.is_margined-margined.ensures c.accrual_day-accrual.ensures
-        c.loop-securities.count c.in_period-within.ensures c.broken-number.ensures in
+    c.find-place.ensures c.place_or_first-known.ensures c.is_margined-margined.ensures c.accrual_day-accrual.ensures
+    c.loop-securities.count c.in_period-within.ensures c.broken-number.ensures in
     c.refused-then-number-ne0.ensures
     ∙ turn_broken (room a.today a.securities) turn on row (number_is ∙ judged_same a.today a.securities turn on row c.requires.sheet_and_days.3) c.if-number-ne0.true
 
@@ -77,8 +76,8 @@ trade_of-requires c =
     let on = tested _ _ c.requires.sheet_and_days.1 c.goes_on.ensures ∙ c.loop-securities-test.true in
     let row = there a.today a.securities turn on c.trade_row-read.ensures c.in-Row.is in
     let number_is = judged a.today a.working a.securities c.in-Row.row
-        c.find-place.ensures c.place_or_first-known.ensures c.is_margined-margined.ensures c.accrual_day-accrual.ensures
-        c.loop-securities.count c.in_period-within.ensures c.broken-number.ensures in
+    c.find-place.ensures c.place_or_first-known.ensures c.is_margined-margined.ensures c.accrual_day-accrual.ensures
+    c.loop-securities.count c.in_period-within.ensures c.broken-number.ensures in
     let few = turn_small a.today a.securities turn on row c.requires.sheet_and_days.3 (sym number_is ∙ c.if-number-ne0.false) in
     (few, rw c.place_or_first-known.ensures (place_below _ _ c.requires.codes.0), rw c.accrual_day-accrual.ensures (accrual_below (eqb c.in-Row.row.trade 1) few.first c.requires.sheet_and_days.4))
 
@@ -95,8 +94,8 @@ loop-securities-preserved c =
     let on = tested _ _ c.requires.sheet_and_days.1 c.goes_on.ensures ∙ c.loop-securities-test.true in
     let row = there a.today a.securities turn on c.trade_row-read.ensures c.in-Row.is in
     let number_is = judged a.today a.working a.securities c.in-Row.row
-        c.find-place.ensures c.place_or_first-known.ensures c.is_margined-margined.ensures c.accrual_day-accrual.ensures
-        c.loop-securities.count c.in_period-within.ensures c.broken-number.ensures in
+    c.find-place.ensures c.place_or_first-known.ensures c.is_margined-margined.ensures c.accrual_day-accrual.ensures
+    c.loop-securities.count c.in_period-within.ensures c.broken-number.ensures in
     let none = sym number_is ∙ c.if-number-ne0.false in
     let w = c.requires.sheet_and_days.3 in
     turn_more (room a.today a.securities) turn on row (number_is ∙ judged_same a.today a.securities turn on row w) c.if-number-ne0.false
