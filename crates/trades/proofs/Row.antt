@@ -25,7 +25,6 @@ use Rattle.fields.proofs.Readings.{day_read, rate_read, trade_read_lem, side_rea
 use Rattle.sections.specs.Sections.{fields_at}
 use Rattle.sections.proofs.Reading.{Lined, split, following, closed, so_many, two_rules, lettered, ranged}
 use Rattle.trades.specs.Read.{held_row, taken_of, trade_read}
-use Rattle.trades.specs.declared.TradeRow.{TradeRow}
 use Rattle.trades.specs.declared.TradeRead.{TradeRead}
 use Rattle.trades.specs.declared.TradeRead.TheVariants as reads
 

@@ -1,10 +1,10 @@
 -- A T row judged by the securities' table, and what the table of trades keeps of it.
-use Rattle.std.specs.Prelude.{ℕ, ◌≤◌, ◌<◌, ◌≡◌, Bool, cond, not, ◌&&◌, ◌||◌, List, leb, ltb, get_or, take}
+use Rattle.std.specs.Prelude.{ℕ, ◌≤◌, ◌<◌, Bool, cond, not, ◌&&◌, ◌||◌, leb, ltb, get_or, take}
 use Rattle.std.proofs.Math.Option.{Option, none, some}
 use Rattle.paper.specs.Units.{Number, Day, Code}
 use Rattle.paper.specs.Text.{is_code}
 use Rattle.paper.specs.Refusals.{Period}
-use Rattle.tables.specs.Numbers.{code_number, highest, number_place}
+use Rattle.tables.specs.Numbers.{code_number, number_place}
 use Rattle.tables.specs.Held.{no_security}
 use Rattle.tables.specs.declared.Security.{Security}
 use Rattle.tables.specs.declared.Securities.{Securities}
