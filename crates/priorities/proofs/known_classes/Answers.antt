@@ -10,7 +10,7 @@ use borrow.Author.Tests.{eq-eqb, ne_eqb}
 use lib.Dec.{eqb}
 use lib.ListN.{length, get_or, take, set, length-map}
 use lib.Seq.{length-take-le, take-suc, get_or-take}
-use Rattle.paper.specs.Lists.{between, first_that}
+use Rattle.paper.specs.Lists.{between, every, first_that}
 use Rattle.paper.specs.Rows as paper
 use Rattle.paper.specs.Refusals.{has_class}
 use Rattle.paper.proofs.Lists.{bounds, every_at}
@@ -18,8 +18,7 @@ use Rattle.tables.specs.Held.{no_class}
 use Rattle.tables.specs.Back.{paper_class}
 use Rattle.tables.specs.declared.ClassRow.{ClassRow}
 use Rattle.priorities.specs.Known.{known_from, known_of}
-use Rattle.priorities.proofs.known_classes.Statement.{statement}
-use Rattle.priorities.proofs.known_classes.Tie as tie
+use Rattle.priorities.proofs.known_classes.Goals as goal
 
 -- A row more: its own class has a row, and any other has one where it had one
 module _ (c : paper.ClassRow) where
@@ -65,55 +64,19 @@ known-row rows size i h known e =
     ∙ known_more (paper_class c) 41 0 c.class (map paper_class (take i rows)) (omega arith)
     ∙ ap known_of front
 
-abbrev invariant-loop : tie.invariant-loop
-invariant-loop classes rows known₀ i₀ known i = (i ≤ classes.count) × (known ≡ known_of (map paper_class (take i rows)))
+-- The class of one of the first rows of a table whose classes are 1 to 40 is at most 40
+low : (rows : List ClassRow) (count i : ℕ) → length rows ≡ 40 → count ≤ 40 → i < count → every (λ (r : ClassRow). between 1 40 r.class) (take count rows) ≡ true
+    → (get_or rows i no_class).class ≤ 40
+low rows count i size few h ranged =
+    (bounds 1 40 (get_or rows i no_class).class
+    (ap (λ (r : ClassRow). between 1 40 r.class) (sym (get_or-take count rows i no_class h))
+    ∙ every_at (λ r. between 1 40 r.class) (take count rows) no_class ranged i
+    (omega (arith, length-take-le count rows (omega arith))))).1
 
-abbrev decreases-loop : tie.decreases-loop
-decreases-loop classes rows known₀ i₀ known i = classes.count - i
+pub loop-i-preserved : goal.loop-i-preserved
+loop-i-preserved c =
+    (omega arith, known-row c.args.classes.rows (omega arith) c.loop-i.i (omega arith) c.loop-i.known c.loop-i.invariant.1)
 
--- There are forty rows
-forty : (c : tie.Start invariant-loop decreases-loop) → length c.args.classes.rows ≡ 40
-forty c = sym (length-map c.args.classes.rows _) ∙ c.well-formed.0.1.1.1.0.1.0.1
-
--- The class of a turn's row is at most 40
-low : (c : tie.Then1 invariant-loop decreases-loop) → (get_or c.before.before.before.before.args.classes.rows c.before.before.loop.i no_class).class ≤ 40
-low c =
-    let l = c.before.before in
-    let s = l.before.before in
-    let t = s.args.classes in
-    (bounds 1 40 (get_or t.rows l.loop.i no_class).class
-    (ap (λ (r : ClassRow). between 1 40 r.class) (sym (get_or-take t.count t.rows l.loop.i no_class (omega arith)))
-    ∙ every_at (λ r. between 1 40 r.class) (take t.count t.rows) no_class s.requires.1 l.loop.i
-    (omega (arith, length-take-le t.count t.rows (omega (arith, forty s)))))).1
-
-loop-holds : tie.Need-loop-init invariant-loop decreases-loop
-loop-holds c = (omega arith, refl)
-
-loop-again : tie.Need-loop-preserved invariant-loop decreases-loop
-loop-again c =
-    let l = c.before.before in
-    let s = l.before.before in
-    let rows = s.args.classes.rows in
-    (omega arith, known-row rows (forty s) l.loop.i (omega arith) l.loop.known l.loop.invariant.1)
-
-returns : tie.Need-returns invariant-loop decreases-loop
-returns c =
-    let l = c.before.before in
-    let t = l.before.before.args.classes in
-    let all : l.loop.i ≡ t.count = omega arith in
-    l.loop.invariant.1 ∙ ap (λ (n : ℕ). known_of (map paper_class (take n t.rows))) all
-
-pub known-classes-spec : {M : Type 1} → statement M
-known-classes-spec =
-    tie.close
-    (tie.spec
-    invariant-loop
-    decreases-loop
-    loop-holds
-    (λ c. omega arith)
-    (λ c. omega arith)
-    (λ c. omega (arith, low c))
-    (λ c. omega arith)
-    (λ c. omega arith)
-    loop-again
-    returns)
+pub bounds-known-class : goal.bounds-known-class
+bounds-known-class c =
+    omega (arith, low c.args.classes.rows c.args.classes.count c.loop-i.i (omega arith) c.requires.0 c.loop-i-test.true c.requires.1)
