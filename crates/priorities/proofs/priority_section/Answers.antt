@@ -1,19 +1,15 @@
 -- `priorities::priority_section` meets its contract. The loop's invariant: whatever C rows the known classes are those of, the table
 -- has the rows above, and the section goes on from `at`. The measure is the bytes left up to `end`.
-use Prim.Native.Nat.{ℕ, ◌-◌, ◌<◌}
+use Prim.Native.Nat.{ℕ}
 use native.Mathlib.Omega.{arith}
-use mathlib.Core.List.{List, []}
-use mathlib.Core.Path.{◌≡◌, sym, ap, ◌∙◌}
-use borrow.Author.Rules.{rules}
-use Rattle.paper.specs.Rows.{ClassRow}
+use mathlib.Core.List.{[]}
+use mathlib.Core.Path.{sym, ap, ◌∙◌}
 use Rattle.paper.specs.Refusals.{refused}
 use Rattle.tables.specs.Back.{paper_classes}
-use Rattle.sections.proofs.Loops.{goes_before}
 use Rattle.priorities.specs.Read.{priority_number}
-use Rattle.priorities.specs.Known.{known_of}
 use Rattle.priorities.specs.Section.{priority_section}
-use Rattle.sections.proofs.Rooms.{turn_start, turn_counted, Judging, Taken, judging_refused, judging_row, judging_ended}
-use Rattle.priorities.proofs.Turns.{room, low, judge}
+use Rattle.sections.proofs.Rooms.{turn_start, turn_counted, judging_refused, judging_row, judging_ended}
+use Rattle.priorities.proofs.Turns.{room, judge}
 use Rattle.priorities.proofs.priority_section.Goals as goal
 
 pub loop-known-init : goal.loop-known-init
@@ -32,12 +28,6 @@ returns-then-number-ne0 c =
     let j = c.loop-known.invariant (paper_classes c.args.classes) c.known_classes-known.ensures in
     let r = judging_row (judge (paper_classes c.args.classes)) j c.requires.1 c.goes_on.ensures c.loop-known-test.true c.priority_row-read.ensures c.in-Row.is in
     c.refused-then-number-ne0.ensures ∙ r.refuses _ c.broken-number.ensures c.if-number-ne0.true
-
-pub broken-number-requires : goal.broken-number-requires
-broken-number-requires c =
-    let j = c.loop-known.invariant (paper_classes c.args.classes) c.known_classes-known.ensures in
-    let r = judging_row (judge (paper_classes c.args.classes)) j c.requires.1 c.goes_on.ensures c.loop-known-test.true c.priority_row-read.ensures c.in-Row.is in
-    rw (sym r.held_is) (low (paper_classes c.args.classes) r.row_is r.own)
 
 pub loop-known-smaller : goal.loop-known-smaller
 loop-known-smaller c =
