@@ -1,12 +1,10 @@
 -- `head::is_text` meets its contract. The loop's invariant: the bytes so far are the text's. The measure is the bytes left.
 use Prim.Native.Nat.{ℕ, suc, ◌+◌, ◌-◌, ◌≤◌, ◌<◌}
-use native.Mathlib.Nat.{add-zero}
 use native.Mathlib.Numerals.{add-one}
 use native.Mathlib.Omega.{arith}
 use mathlib.Core.Bool.{Bool, true, false}
 use mathlib.Core.List.{◌∷◌}
 use mathlib.Core.Path.{◌≡◌, refl, sym, ap, ◌∙◌}
-use borrow.Author.Rules.{rules}
 use borrow.Author.Tests.{eq-eqb, ne_eqb}
 use lib.ListN.{length, get_or, drop, drop_of_length-le}
 use lib.Seq.{slice, drop-cons, length-slice}
@@ -15,8 +13,7 @@ use Rattle.paper.specs.Text.{same}
 use Rattle.paper.proofs.Order.{same_true}
 use Rattle.places.specs.Places.{Place}
 use Rattle.places.proofs.Parts.{part_step, part_empty}
-use Rattle.head.proofs.is_text.Statement.{statement}
-use Rattle.head.proofs.is_text.Tie as tie
+use Rattle.head.proofs.is_text.Goals as goal
 
 module _ (text s : Text) (at end : Place) (h : at ≤ end) (k : end ≤ length s) where
   -- A text of another length is another
@@ -46,56 +43,12 @@ module _ (text s : Text) (at end : Place) (h : at ≤ end) (k : end ≤ length s
   no_byte : length text ≡ end - at → (i : ℕ) → i ≡ length text → left i ≡ true
   no_byte size i e = rw (part_empty s (at + i) end (omega arith), drop_of_length-le text {i = i} (omega arith))
 
-abbrev invariant-loop : tie.invariant-loop
-invariant-loop text s at end i₀ i = (i ≤ length text) × (same text (slice at end s) ≡ same (drop i text) (slice (at + i) end s))
+pub returns-then-text-end : goal.returns-then-text-end
+returns-then-text-end c =
+    let a = c.args in
+    not_as_long a.text.now a.s.now a.at a.end c.requires.0 c.requires.1 c.if-text-end.true
 
-abbrev decreases-loop : tie.decreases-loop
-decreases-loop text s at end i₀ i = length text - i
-
-returns : tie.Need-returns invariant-loop decreases-loop
+pub returns : goal.returns
 returns c =
-    let e = c.before in
-    let a = e.args in
-    not_as_long a.text.now a.s.now a.at a.end e.requires.0 e.requires.1 c.if1.true
-
-loop-holds : tie.Need-loop-init invariant-loop decreases-loop
-loop-holds c = (omega arith, rw add-zero)
-
-returns-2 : tie.Need-returns-2 invariant-loop decreases-loop
-returns-2 c =
-    let l = c.before.before.before.before in
-    let e = l.before.before in
-    let a = e.args in
-    sym (l.loop.invariant.1 ∙ other_byte a.text.now a.s.now a.at a.end e.requires.0 e.requires.1 l.loop.i (omega arith) (omega arith) c.if2.true)
-
-loop-again : tie.Need-loop-preserved invariant-loop decreases-loop
-loop-again c =
-    let l = c.before.before.before.before in
-    let e = l.before.before in
-    let a = e.args in
-    (omega arith, l.loop.invariant.1 ∙ same_byte a.text.now a.s.now a.at a.end e.requires.0 e.requires.1 l.loop.i (omega arith) (omega arith) c.if2.false)
-
-returns-3 : tie.Need-returns-3 invariant-loop decreases-loop
-returns-3 c =
-    let l = c.before in
-    let e = l.before.before in
-    let a = e.args in
-    sym (l.loop.invariant.1 ∙ no_byte a.text.now a.s.now a.at a.end e.requires.0 e.requires.1 (omega arith) l.loop.i (omega arith))
-
-pub is-text-spec : {M : Type 1} → statement M
-is-text-spec =
-    tie.close
-    (tie.spec
-    invariant-loop
-    decreases-loop
-    (λ c. search rules)
-    returns
-    loop-holds
-    (λ c. search rules)
-    (λ c. omega arith)
-    (λ c. omega arith)
-    returns-2
-    (λ c. search rules)
-    (λ c. search rules)
-    loop-again
-    returns-3)
+    let a = c.args in
+    sym (c.loop-i.invariant.1 ∙ no_byte a.text.now a.s.now a.at a.end c.requires.0 c.requires.1 (omega arith) c.loop-i.i (omega arith))
