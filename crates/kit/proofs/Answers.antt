@@ -1,5 +1,5 @@
 -- What was read of a sheet, refused or accepted, and what an entry then answers.
-use Prim.Native.Nat.{ℕ, ◌+◌, ◌≤◌}
+use Prim.Native.Nat.{ℕ, ◌≤◌}
 use native.Mathlib.Nat.{zero-add}
 use native.Mathlib.Omega.{arith}
 use mathlib.Core.List.{◌++◌}
