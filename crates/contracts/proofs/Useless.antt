@@ -24,6 +24,7 @@ use Rattle.paper.specs.Answer.{Answer, tables_of, answer_by, accepted, number_of
 use Rattle.paper.specs.Demands.{IsBytes, Reports, Demand2, with_priorities}
 use Rattle.paper.specs.Example as example
 use Rattle.paper.proofs.Demands.{gives_answer, demand_2}
+use Rattle.paper.proofs.Example.{printed}
 
 -- A buffer of 32,768 bytes, all 0
 abbrev buffer : Text
@@ -59,7 +60,7 @@ gives_report l k d sheet report bytes fits e =
 
 -- ... on document 01's sheet
 gives_example : (l : Listing) (k : Kit) → Demand2 l k → Reports k example.sheet buffer example.report
-gives_example l k d = gives_report l k d example.sheet example.report tt (omega arith) (example.printed l)
+gives_example l k d = gives_report l k d example.sheet example.report tt (omega arith) (printed l)
 
 -- One that refuses every sheet
 pub refusing_shut_out : (l : Listing) → Demand2 l (λ sheet buffer. (65_536, buffer)) → ⊥
