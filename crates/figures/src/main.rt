@@ -3,6 +3,7 @@
 #![tactic(auto)]
 
 ghost use Rattle.std.specs.Prelude.{◌≤◌, length, IfOk};
+ghost use Rattle.io.specs.Counts.{IsPrefixLen};
 
 use std::env::{Env, FillError};
 use std::fs::Files;
@@ -47,7 +48,7 @@ fn has_argument(
 
 // Reads until the buffer is full or the input ends, and gives how many bytes it put at the buffer's start.
 fn read_full(input: &mut impl Read, text: &mut [u8]) -> io::Result<usize>
-    ensures { IfOk result (λ size. size ≤ length text.new) }
+    ensures { IfOk result (λ size. IsPrefixLen size text.new) }
 {
     let mut size: usize = 0; // bytes read
     while size < text.len() {
@@ -62,7 +63,7 @@ fn read_full(input: &mut impl Read, text: &mut [u8]) -> io::Result<usize>
 
 // A file, as far as there is room; gives how many bytes it has, 0 where it cannot be opened.
 fn read_file(rt: &impl Files, name: &[u8], text: &mut [u8]) -> io::Result<usize>
-    ensures { IfOk result (λ size. size ≤ length text.new) }
+    ensures { IfOk result (λ size. IsPrefixLen size text.new) }
 {
     let Ok(path) = str::from_utf8(name) else {
         return Ok(0);

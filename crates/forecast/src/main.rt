@@ -3,6 +3,7 @@
 #![tactic(auto)]
 
 ghost use Rattle.std.specs.Prelude.{◌≤◌, length, IfOk};
+ghost use Rattle.io.specs.Counts.{IsPrefixLen};
 
 use std::env::{Env, FillError};
 use std::io;
@@ -38,7 +39,7 @@ fn has_word(
 // class that no sheet has, and so is a word that is too long.
 fn show_why(rt: &impl Env, sheet: &[u8], out: &mut [u8]) -> usize
     requires { 32_768 ≤ length out.old }
-    ensures { result ≤ length out.new }
+    ensures { IsPrefixLen result out.new }
 {
     let mut currency = [0u8; 4096];
     let mut digits = [0u8; 4096];
@@ -51,7 +52,7 @@ fn show_why(rt: &impl Env, sheet: &[u8], out: &mut [u8]) -> usize
 // The quiet report, or where there is one word the full one, or where there are two the explanation that they ask for.
 fn show_asked(rt: &impl Env, sheet: &[u8], out: &mut [u8]) -> usize
     requires { 32_768 ≤ length out.old }
-    ensures { result ≤ length out.new }
+    ensures { IsPrefixLen result out.new }
 {
     let one = has_word(rt, 1);
     let two = has_word(rt, 2);
@@ -63,7 +64,7 @@ fn show_asked(rt: &impl Env, sheet: &[u8], out: &mut [u8]) -> usize
 
 // Reads until the buffer is full or the input ends, and gives how many bytes it put at the buffer's start.
 fn read_full(input: &mut impl Read, text: &mut [u8]) -> io::Result<usize>
-    ensures { IfOk result (λ size. size ≤ length text.new) }
+    ensures { IfOk result (λ size. IsPrefixLen size text.new) }
 {
     let mut size: usize = 0; // bytes read
     while size < text.len() {
