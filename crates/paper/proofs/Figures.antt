@@ -1,4 +1,4 @@
--- The figures of document 01 that are not starred, as the checker computes them.
+-- The starred figures of document 01, 1 to 9, as the checker computes them.
 use Rattle.std.specs.Prelude.{refl}
 use Rattle.paper.specs.Rounding.{nearest, rounded}
 use Rattle.paper.specs.Days.{is_open, working_after}

@@ -1,4 +1,4 @@
--- The sheet of document 01 in full, that its answer is the report printed there, and why each class's margin is what it is.
+-- The sheet of document 01 in full, the report that is printed there, and why each class's margin is what it is.
 use Rattle.std.specs.Prelude.{[], ◌∷◌}
 use Rattle.paper.specs.Units.{Text}
 use Rattle.paper.specs.Text.{ascii}
