@@ -2,7 +2,9 @@
 use Prim.Native.Nat.{ℕ, zero, suc, ◌+◌, ◌≤◌, ◌<◌}
 use native.Mathlib.Omega.{arith}
 use mathlib.Core.Bool.{Bool, true, false, ◌&&◌}
-use mathlib.Core.List.{List, ◌∷◌}
+use mathlib.Core.List.{List, [], ◌∷◌}
+use mathlib.Core.Option as maybe
+use Rattle.std.proofs.Common.{Option, Some, None}
 use mathlib.Core.Path.{◌≡◌, refl, ap, ap₂, ◌∙◌}
 use lib.Dec.{T, ltb}
 use lib.ListN.{length, get_or}
@@ -13,13 +15,14 @@ use Rattle.paper.proofs.Lists.{tests}
 use Rattle.tables.specs.Held.{no_priority, held_priority, priority_table}
 use Rattle.tables.specs.declared.PriorityRow.{PriorityRow}
 use Rattle.tables.specs.declared.Priorities.{Priorities}
+use Rattle.answers.specs.Options.{answer}
+use Rattle.answers.specs.Refusals.{refusal}
+use Rattle.answers.specs.declared.Refusal.{Refusal}
+use Rattle.answers.specs.declared.Refusal.TheVariants.{Count, Missing}
 use Rattle.sections.specs.Sections.{broken}
 use Rattle.sections.proofs.Loops.{Kept, more_kept}
 use Rattle.sections.proofs.Rooms.{Room, Judge}
 use Rattle.priorities.specs.Known.{known_from, known_of, broken_of}
-use Rattle.priorities.specs.declared.PriorityRead.{PriorityRead}
-use Rattle.priorities.specs.declared.PriorityRead.TheVariants as reads
-use Rattle.priorities.specs.declared.PrioritySection.{PrioritySection}
 
 -- What is known of a class is whether it has a C row
 pub known_at : (many : ℕ) (first n : ℕ) (cs : List paper.ClassRow) → n < many → get_or (known_from many first cs) n false ≡ has_class cs (first + n)
@@ -29,25 +32,16 @@ known_at (suc many) first (suc n) cs h = known_at many (suc first) n cs (omega a
 
 module _ (cs : List paper.ClassRow) where
   -- The room
-  abbrev pub room : Room paper.PriorityRow PriorityRead PriorityRow PriorityRow PrioritySection Priorities
+  abbrev pub room : Room paper.PriorityRow PriorityRow PriorityRow Priorities
   room =
       record {
         kind = priority_kind cs;
-        numbers = λ above o. refl;
         letter = 79;
         its_letter = refl;
-        refuse = reads.Refused;
-        row = λ o next. reads.Row o next;
-        words = record {
-          apart = λ number o next e. let z : ◌≡◌ {A = ℕ} 0 1 = cc in absurd (omega arith);
-          one = λ o p m n e. (cc, cc);
-          number = λ m n e. cc;
-        };
         held = λ sheet at. held_priority;
         most = 200;
         free = no_priority;
         kept = held_priority;
-        make = λ section table. record { section = section; table = table };
         table = priority_table;
       }
 
@@ -61,11 +55,20 @@ module _ (cs : List paper.ClassRow) where
 
   -- A row is judged by what is known as by the C rows
   pub alike : (above : List paper.PriorityRow) (o : paper.PriorityRow) → T (hold ((priority_kind cs).own o))
-      → broken_of (known_of cs) (length above) (held_priority o) ≡ broken ((priority_kind cs).others above o)
+      → broken_of (known_of cs) (length above) (held_priority o) ≡ answer (maybe.map refusal (broken ((priority_kind cs).others above o)))
   alike above o own =
-      ap (λ (known : Bool). elim (ltb (length above) 200) [ false ↦ 8 | true ↦ elim known [ false ↦ 10 | true ↦ 0 ] ])
-      (ap₂ ◌&&◌ (known_at 41 0 o.first cs (omega (arith, (low o own).0)) ∙ ap (has_class cs) (omega arith))
+      ap judged (ap₂ ◌&&◌ (known_at 41 0 o.first cs (omega (arith, (low o own).0)) ∙ ap (has_class cs) (omega arith))
       (known_at 41 0 o.second cs (omega (arith, (low o own).1)) ∙ ap (has_class cs) (omega arith)))
+      ∙ both (ltb (length above) 200) (has_class cs o.first && has_class cs o.second)
+    where
+      judged : Bool → Option Refusal
+      judged known = elim (ltb (length above) 200) [ false ↦ Some Count | true ↦ elim known [ false ↦ Some Missing | true ↦ None ] ]
+
+      both : (room known : Bool) → elim room [ false ↦ Some Count | true ↦ elim known [ false ↦ Some Missing | true ↦ None ] ]
+          ≡ answer (maybe.map refusal (broken ((8, room) ∷ (10, known) ∷ [])))
+      both false known = refl
+      both true false = refl
+      both true true = refl
 
   abbrev pub judge : Judge room (List Bool)
   judge = record { tell = λ above. known_of cs; judge = broken_of; alike = λ sheet at above o kept own. alike above o own; few = few }

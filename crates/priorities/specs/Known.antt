@@ -1,8 +1,10 @@
 -- Which classes have a C row, and an O row judged by them.
-use Rattle.std.specs.Prelude.{ℕ, zero, suc, Bool, true, false, ◌&&◌, List, [], ◌∷◌, ltb, get_or}
-use Rattle.paper.specs.Units.{Number, Class}
+use Rattle.std.specs.Prelude.{ℕ, zero, suc, Bool, true, false, ◌&&◌, List, [], ◌∷◌, ltb, get_or, Option, Some, None}
+use Rattle.paper.specs.Units.{Class}
 use Rattle.paper.specs.Rows.{ClassRow}
 use Rattle.paper.specs.Refusals.{has_class}
+use Rattle.answers.specs.declared.Refusal.{Refusal}
+use Rattle.answers.specs.declared.Refusal.TheVariants.{Count, Missing}
 use Rattle.tables.specs.declared.PriorityRow.{PriorityRow}
 
 -- Whether each class number from one on, so many, has a C row
@@ -15,6 +17,9 @@ abbrev pub known_of : List ClassRow → List Bool
 known_of cs = known_from 41 0 cs
 
 -- The rule that a row breaks with so many above it: 8 fewer than 200 above; 10 both classes are known
-abbrev pub broken_of : List Bool → ℕ → PriorityRow → Number
+abbrev pub broken_of : List Bool → ℕ → PriorityRow → Option Refusal
 broken_of known count o =
-    elim (ltb count 200) [ false ↦ 8 | true ↦ elim (get_or known o.first false && get_or known o.second false) [ false ↦ 10 | true ↦ 0 ] ]
+    elim (ltb count 200) [
+      | false ↦ Some Count
+      | true ↦ elim (get_or known o.first false && get_or known o.second false) [ false ↦ Some Missing | true ↦ None ]
+    ]

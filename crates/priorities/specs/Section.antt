@@ -1,14 +1,15 @@
 -- The O section as the code holds it.
-use Rattle.std.specs.Prelude.{List}
+use Rattle.std.specs.Prelude.{List, Result}
 use Rattle.paper.specs.Units.{Text}
 use Rattle.paper.specs.Rows.{PriorityRow}
 use Rattle.paper.specs.Refusals.{Outcome}
 use Rattle.paper.specs.Sheet.{Rest}
+use Rattle.answers.specs.declared.Refused.{Refused}
 use Rattle.places.specs.Places.{Place}
 use Rattle.tables.specs.Held.{priority_table}
-use Rattle.sections.specs.Sections.{section_of, rows_in}
-use Rattle.priorities.specs.declared.PrioritySection.{PrioritySection}
+use Rattle.tables.specs.declared.Priorities.{Priorities}
+use Rattle.sections.specs.Sections.{section_as}
 
--- The section that starts at a place: how it went, and its table
-abbrev pub priority_section : Text → Place → Outcome (List PriorityRow × Rest) → PrioritySection
-priority_section sheet from o = record { section = section_of sheet from o; table = priority_table (rows_in o) }
+-- The section that starts at a place: its table with the place behind it, or its refusal
+abbrev pub priority_section : Text → Place → Outcome (List PriorityRow × Rest) → Result (Priorities × Place) Refused
+priority_section = section_as priority_table

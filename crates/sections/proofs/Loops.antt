@@ -5,24 +5,26 @@ use native.Mathlib.Numerals.{add-one}
 use native.Mathlib.Omega.{arith}
 use mathlib.Core.Bool.{Bool, true, false, ◌&&◌}
 use mathlib.Core.List.{List, [], ◌∷◌, ◌++◌, reverse}
-use mathlib.Core.Option.{Option, none, some}
+use mathlib.Core.Option.{Option, none, some, some-injective}
 use mathlib.Core.Logic.{⊎_elim}
-use mathlib.Core.Path.{◌≡◌, refl, sym, ap, ◌∙◌, subst}
+use mathlib.Core.Path.{◌≡◌, refl, sym, ap, ap₂, ◌∙◌, subst}
+use Rattle.std.proofs.Common.{Result, Ok, Err}
 use borrow.Author.Tests.{ltb-true, ltb-false}
 use lib.Dec.{T, eqb, ltb}
 use lib.ListN.{length, get_or, drop, length-reverse}
-use Rattle.paper.specs.Units.{Byte, Text, Fields, Line}
-use Rattle.paper.specs.Lists.{between}
+use Rattle.paper.specs.Units.{Byte, Text, Fields, Line, Number}
 use Rattle.paper.specs.Text.{lines}
 use Rattle.paper.specs.Refusals.{Outcome, refused, accepted, Rule, judged, RowKind, rules_of}
 use Rattle.paper.specs.Sheet.{Rest, begins, row, rows_from, section}
 use Rattle.paper.specs.Tables.{hold}
-use Rattle.paper.proofs.Lists.{both, never, every_cons}
-use Rattle.paper.proofs.Outcomes.{not_accepted, refused_one, judged_holds, judged_accepted, numbered}
+use Rattle.paper.proofs.Lists.{both}
+use Rattle.paper.proofs.Outcomes.{not_accepted, refused_one, judged_holds, judged_accepted}
 use Rattle.places.specs.Places.{Place, ended_length, line_at}
 use Rattle.places.proofs.Places.{line_there, no_line, unended_line, ended_most}
-use Rattle.sections.specs.Sections.{fields_at, goes_on, next_after, shaped, told, broken, section_of, rows_in}
-use Rattle.sections.specs.declared.Section.{Section}
+use Rattle.answers.specs.Refusals.{refusal}
+use Rattle.answers.specs.declared.Refusal.{Refusal}
+use Rattle.answers.specs.declared.Refused.{Refused}
+use Rattle.sections.specs.Sections.{fields_at, goes_on, next_after, shaped, broken, read_as, section_as}
 
 -- ---- a row in two steps
 
@@ -45,18 +47,17 @@ judged_before at r [] more number line e = not_accepted (sym e)
 judged_before at r ((n, true) ∷ rules) more number line e = judged_before at r rules more number line e
 judged_before at r ((n, false) ∷ rules) more number line e = ap (λ (n : ℕ). refused n at) (refused_one e).0
 
--- Where no rule is broken, all hold, for no rule has the number 0
-none_broken : (rules : List Rule) → numbered rules ≡ true → broken rules ≡ 0 → T (hold rules)
-none_broken [] n e = tt
-none_broken ((number, true) ∷ rules) n e = none_broken rules (every_cons (λ rule. between 1 12 rule.0) (number, true) rules n).1 e
-none_broken ((zero, false) ∷ rules) n e = never (every_cons (λ rule. between 1 12 rule.0) (0, false) rules n).0
-none_broken ((suc number, false) ∷ rules) n e = absurd (omega arith)
+-- Where no rule is broken, all hold
+none_broken : (rules : List Rule) → broken rules ≡ none → T (hold rules)
+none_broken [] e = tt
+none_broken ((number, true) ∷ rules) e = none_broken rules e
+none_broken ((number, false) ∷ rules) e = cc
 
 -- The first that is broken is the refusal
-one_broken : {R : Type 0} (at : Line) (r : R) (rules : List Rule) → (broken rules ≡ 0 → ⊥) → judged at r rules ≡ refused (broken rules) at
-one_broken at r [] other = absurd (other refl)
-one_broken at r ((number, true) ∷ rules) other = one_broken at r rules other
-one_broken at r ((number, false) ∷ rules) other = refl
+one_broken : {R : Type 0} (at : Line) (r : R) (rules : List Rule) (number : Number) → broken rules ≡ some number → judged at r rules ≡ refused number at
+one_broken at r [] number e = cc
+one_broken at r ((n, true) ∷ rules) number e = one_broken at r rules number e
+one_broken at r ((n, false) ∷ rules) number e = ap (λ (n : ℕ). refused n at) (some-injective n number e)
 
 module _ {R : Type 0} (kind : RowKind R) where
   -- A row by whether it has its number of fields, and by what they read as: by itself, and with the rows above
@@ -105,26 +106,22 @@ module _ {R : Type 0} (kind : RowKind R) where
           let (one, holds) = judged_accepted 0 q r (kind.own q) e in
           subst (λ (x : R). T (hold (kind.own x))) one holds
 
--- ---- what was told of a row
+-- ---- what was read
 
--- How the code says a row, held in some way and with the place of the next line, and a refusal: each in its own words
-pub record Words {A H : Type 0} (refuse : ℕ → A) (row : H → Place → A) : Type 0 where
-  pub apart : (number : ℕ) (h : H) (next : Place) → refuse number ≡ row h next → ⊥
-  pub one : (h k : H) (m n : Place) → row h m ≡ row k n → (h ≡ k) × (m ≡ n)
-  pub number : (m n : ℕ) → refuse m ≡ refuse n → m ≡ n
-
-module _ {R A H : Type 0} {refuse : ℕ → A} {row : H → Place → A} (words : Words refuse row) (held : R → H) (next : Place) where
-  -- A row that was told is one that was accepted
-  pub told_row : (o : Outcome R) (h : H) (n : Place) → told refuse (λ r. row (held r) next) o ≡ row h n
+module _ {R H : Type 0} (held : R → H) (next : Place) where
+  -- A row that was read is one that was accepted
+  pub read_row : (o : Outcome R) (h : H) (n : Place) → read_as held next o ≡ Ok (h, n)
       → (r : R) × (o ≡ accepted r) × (held r ≡ h) × (next ≡ n)
-  told_row (refused number line) h n e = absurd (words.apart number h n e)
-  told_row (accepted r) h n e = (r, refl, (words.one (held r) h next n e).0, (words.one (held r) h next n e).1)
+  read_row (refused number line) h n e = cc
+  read_row (accepted r) h n e =
+      let same : (h, n) ≡ (held r, next) = cc in
+      (r, refl, ap (λ (p : H × Place). p.0) (sym same), ap (λ (p : H × Place). p.1) (sym same))
 
-  -- A refusal that was told is the refusal
-  pub told_refused : (o : Outcome R) (number : ℕ) → told refuse (λ r. row (held r) next) o ≡ refuse number
-      → (line : Line) × (o ≡ refused number line)
-  told_refused (refused n line) number e = (line, ap (λ (n : ℕ). refused n line) (words.number n number e))
-  told_refused (accepted r) number e = absurd (words.apart number (held r) next (sym e))
+  -- A refusal that was answered is the refusal
+  pub read_refused : (o : Outcome R) (f : Refusal) → read_as held next o ≡ Err f
+      → (number : Number) × (line : Line) × (o ≡ refused number line) × (refusal number ≡ f)
+  read_refused (refused n line) f e = (n, line, refl, cc)
+  read_refused (accepted r) f e = cc
 
 -- ---- the loop
 
@@ -159,8 +156,7 @@ module _ {R : Type 0} (kind : RowKind R) (sheet : Text) (from : Place) where
   pub going_start : from ≤ ended_length sheet → Going [] 0 from
   going_start h = record { so_far = refl; counted = refl; placed = refl; within = h; kept = none_kept }
 
-module _ {R : Type 0} (kind : RowKind R) (numbers : (above : List R) (r : R) → numbered (kind.others above r) ≡ true)
-    (letter : Byte) (its_letter : kind.letter ≡ letter ∷ [])
+module _ {R : Type 0} (kind : RowKind R) (letter : Byte) (its_letter : kind.letter ≡ letter ∷ [])
     {sheet : Text} {from : Place} {above : List R} {count : ℕ} {at : Place} (g : Going kind sheet from above count at) where
   module _ (on : goes_on sheet at (ended_length sheet) letter ≡ true) where
     -- The line that the section takes
@@ -186,20 +182,20 @@ module _ {R : Type 0} (kind : RowKind R) (numbers : (above : List R) (r : R) →
     going_refused number line e = refusing number (row_refused kind above count (fields_at sheet at) number line begun e)
 
     -- A row that breaks a rule on other rows does
-    pub going_broken : (r : R) → shaped kind (fields_at sheet at) ≡ accepted r → (broken (kind.others above r) ≡ 0 → ⊥)
-        → whole kind sheet from ≡ refused (broken (kind.others above r)) count
-    going_broken r e other =
-        refusing (broken (kind.others above r)) (row_judged kind above count (fields_at sheet at) r begun e ∙ one_broken count r (kind.others above r) other)
+    pub going_broken : (r : R) → shaped kind (fields_at sheet at) ≡ accepted r → (number : Number) → broken (kind.others above r) ≡ some number
+        → whole kind sheet from ≡ refused number count
+    going_broken r e number first =
+        refusing number (row_judged kind above count (fields_at sheet at) r begun e ∙ one_broken count r (kind.others above r) number first)
 
     -- One that breaks none is a row more
-    pub going_on : (r : R) → shaped kind (fields_at sheet at) ≡ accepted r → broken (kind.others above r) ≡ 0
+    pub going_on : (r : R) → shaped kind (fields_at sheet at) ≡ accepted r → broken (kind.others above r) ≡ none
         → Going kind sheet from (r ∷ above) (count + 1) (line_at sheet at).next
     unfolding rows_from
     going_on r e unbroken =
         let (split, further, inside) = taken_line_lem in
         let is = row_judged kind above count (fields_at sheet at) r begun e in
         let own = own_holds kind (fields_at sheet at) r e in
-        let others = none_broken (kind.others above r) (numbers above r) unbroken in
+        let others = none_broken (kind.others above r) unbroken in
         record {
           so_far = g.so_far ∙ ap (rows_from kind above count) split ∙ rw (begun, is ∙ judged_holds count r (kind.others above r) others, rows_from, add-one);
           counted = omega (arith, g.counted);
@@ -244,19 +240,18 @@ module _ {R : Type 0} (kind : RowKind R) (numbers : (above : List R) (r : R) →
 
 -- ---- a line, as the code reads it
 
-module _ {R A H : Type 0} (kind : RowKind R) (numbers : (above : List R) (r : R) → numbered (kind.others above r) ≡ true)
-    (letter : Byte) (its_letter : kind.letter ≡ letter ∷ []) {refuse : ℕ → A} {row : H → Place → A} (words : Words refuse row) (held : R → H)
+module _ {R H : Type 0} (kind : RowKind R) (letter : Byte) (its_letter : kind.letter ≡ letter ∷ []) (held : R → H)
     {sheet : Text} {from : Place} {above : List R} {count : ℕ} {at : Place} (g : Going kind sheet from above count at)
     (on : goes_on sheet at (ended_length sheet) letter ≡ true) where
-  -- What the line is told as
-  abbrev pub line : A
-  line = told refuse (λ r. row (held r) (line_at sheet at).next) (shaped kind (fields_at sheet at))
+  -- What the line is read as
+  abbrev pub line : Result (H × Place) Refusal
+  line = read_as held (line_at sheet at).next (shaped kind (fields_at sheet at))
 
   -- A refusal refuses the section
-  pub line_refused : (number : ℕ) → line ≡ refuse number → whole kind sheet from ≡ refused number count
-  line_refused number e =
-      let (n, shape) = told_refused words held (line_at sheet at).next (shaped kind (fields_at sheet at)) number e in
-      going_refused kind numbers letter its_letter g on number n shape
+  pub line_refused : (f : Refusal) → line ≡ Err f → (number : Number) × (whole kind sheet from ≡ refused number count) × (refusal number ≡ f)
+  line_refused f e =
+      let (number, n, shape, is) = read_refused held (line_at sheet at).next (shaped kind (fields_at sheet at)) f e in
+      (number, going_refused kind letter its_letter g on number n shape, is)
 
   -- A row is one of the paper's, which keeps its own rules; it refuses the section by a rule on other rows that it breaks, and
   -- where it breaks none the section goes on from the next line
@@ -264,42 +259,40 @@ module _ {R A H : Type 0} (kind : RowKind R) (numbers : (above : List R) (r : R)
     pub row_is : R
     pub held_is : held row_is ≡ h
     pub own : T (hold (kind.own row_is))
-    pub refuses : (broken (kind.others above row_is) ≡ 0 → ⊥) → whole kind sheet from ≡ refused (broken (kind.others above row_is)) count
-    pub goes : broken (kind.others above row_is) ≡ 0 → Going kind sheet from (row_is ∷ above) (count + 1) next
+    pub refuses : (number : Number) → broken (kind.others above row_is) ≡ some number → whole kind sheet from ≡ refused number count
+    pub goes : broken (kind.others above row_is) ≡ none → Going kind sheet from (row_is ∷ above) (count + 1) next
     pub further : (at < next) × (next ≤ ended_length sheet)
 
-  pub line_row : (h : H) (next : Place) → line ≡ row h next → LineRow h next
+  pub line_row : (h : H) (next : Place) → line ≡ Ok (h, next) → LineRow h next
   line_row h next e =
-      let (r, shape, is, behind) = told_row words held (line_at sheet at).next (shaped kind (fields_at sheet at)) h next e in
+      let (r, shape, is, behind) = read_row held (line_at sheet at).next (shaped kind (fields_at sheet at)) h next e in
       subst (LineRow h) behind
       (record {
         row_is = r;
         held_is = is;
         own = own_holds kind (fields_at sheet at) r shape;
-        refuses = going_broken kind numbers letter its_letter g on r shape;
-        goes = going_on kind numbers letter its_letter g on r shape;
-        further = going_further kind numbers letter its_letter g on;
+        refuses = going_broken kind letter its_letter g on r shape;
+        goes = going_on kind letter its_letter g on r shape;
+        further = going_further kind letter its_letter g on;
       })
 
 -- ---- how the section went, as the code says it
 
-module _ {R S T : Type 0} (kind : RowKind R) (sheet : Text) (from : Place) (make : Section → T → S) (table : List R → T) where
-  -- The section, as the code holds it: how it went, and its table
-  abbrev pub result : S
-  result = make (section_of sheet from (whole kind sheet from)) (table (rows_in (whole kind sheet from)))
+module _ {R T : Type 0} (kind : RowKind R) (sheet : Text) (from : Place) (table : List R → T) where
+  -- What the section answers
+  abbrev pub result : Result (T × Place) Refused
+  result = section_as table sheet from (whole kind sheet from)
 
-  -- Refused, with no rows
+  -- Refused
   pub result_refused : (number count : ℕ) → whole kind sheet from ≡ refused number count
-      → make (record { refusal = number; count = count; next = 0 }) (table []) ≡ result
-  result_refused number count e =
-      ap (λ (o : Outcome (List R × Rest)). make (section_of sheet from o) (table (rows_in o))) (sym e)
+      → Err (record { refusal = refusal number; line = count }) ≡ result
+  result_refused number count e = ap (section_as table sheet from) (sym e)
 
   -- Read to its end
   pub result_ended : {above : List R} {count : ℕ} {at : Place} → Going kind sheet from above count at
       → whole kind sheet from ≡ accepted (reverse above, (count, lines (drop at sheet)))
-      → (t : T) → t ≡ table (reverse above) → make (record { refusal = 0; count = count; next = at }) t ≡ result
+      → (t : T) → t ≡ table (reverse above) → Ok (t, at) ≡ result
   result_ended {above} {count} {at} g e t is =
       let many : count ≡ length (reverse above) = g.counted ∙ sym (length-reverse above) in
       let next_line : at ≡ next_after sheet from (length (reverse above)) = g.placed ∙ ap (next_after sheet from) many in
-      (λ i. make (record { refusal = 0; count = many i; next = next_line i }) (is i))
-      ∙ ap (λ (o : Outcome (List R × Rest)). make (section_of sheet from o) (table (rows_in o))) (sym e)
+      ap₂ (λ (t : T) (p : Place). Ok (t, p)) is next_line ∙ ap (section_as table sheet from) (sym e)

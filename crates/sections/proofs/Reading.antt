@@ -3,28 +3,31 @@
 use Prim.Native.Nat.{ℕ, suc, ◌+◌, ◌-◌, ◌≤◌, ◌<◌}
 use native.Mathlib.Numerals.{add-one}
 use native.Mathlib.Omega.{arith}
-use mathlib.Core.Bool.{Bool, true, false, cond, ◌&&◌, and-false}
-use mathlib.Core.List.{List, [], ◌∷◌}
+use mathlib.Core.Bool.{Bool, true, false, cond, ◌&&◌}
+use mathlib.Core.List.{[], ◌∷◌}
 use mathlib.Core.Option
 use mathlib.Core.Option.{Option, none, some, map}
 use mathlib.Core.Path.{◌≡◌, refl, sym, ap, ◌∙◌}
-use borrow.Author.Tests.{eq-eqb, ne_eqb, le-leb, lt-leb}
+use borrow.Author.Tests.{eq-eqb, ne_eqb, le-leb}
 use lib.Dec.{leb, ltb}
 use lib.ListN.{length, get_or}
-use Rattle.paper.specs.Units.{Text, Fields, Number, Duration, Date, Day}
+use Rattle.paper.specs.Units.{Text, Fields, Duration, Date, Day}
 use Rattle.paper.specs.Days.{day_of, day}
 use Rattle.paper.specs.Lists.{between, given, when, ◌>>=◌}
 use Rattle.paper.specs.Text.{LF, number_in, or_blank}
 use Rattle.paper.specs.Rows.{Kind, government, corporate, inflation, floating, field}
-use Rattle.paper.specs.Refusals.{refused, Rule, judged, RowKind, is_duration, follows}
-use Rattle.paper.proofs.Days.{day_below}
-use Rattle.tables.specs.Numbers.{kind_number, highest}
+use Rattle.paper.specs.Refusals.{refused, judged, RowKind, is_duration, follows}
+use Rattle.tables.specs.Numbers.{kind_number}
 use Rattle.places.specs.Places.{Place, ended_length, line_at, field_text, Stands}
-use Rattle.fields.specs.Values.{or_highest, is_read, ranged_in, duration_in}
+use Rattle.fields.specs.Values.{ranged_in, duration_in}
 use Rattle.places.specs.declared.Line.{Line}
 use Rattle.places.proofs.Places.{LineThere, line_there, ended_lf, ended_most}
-use Rattle.fields.proofs.Readings.{ranged_read, duration_read}
-use Rattle.sections.specs.Sections.{fields_at, shaped, told}
+use Rattle.answers.specs.Options.{answer}
+use Rattle.answers.specs.Refusals.{refusal}
+use Rattle.answers.specs.declared.Refusal.{Refusal}
+use Rattle.sections.specs.Sections.{fields_at, shaped, read_as}
+use Rattle.std.proofs.Common as answers
+use Rattle.std.proofs.Common.{Result, Ok, Err, Some, None}
 
 -- ---- the line
 
@@ -65,136 +68,84 @@ module _ (s : Text) (at end : Place) (h : at < end) (k : end ≡ ended_length s)
               rw (add-one i) (ap (field (suc i)) fields_there ∙ rw e (sym f.is));
         }
 
--- ---- tests joined
+-- What a row reader asks of a field
+pub field_asked : (s : Text) (at end : Place) → at < end → end ≡ ended_length s → (line : Line) → line ≡ line_at s at
+    → (many : ℕ) → many ≤ 10 → line.count ≡ many → (k : ℕ) → k + 1 < many → Stands s line.ends k
+field_asked s at end h k line e many m n = (lined s at end h k line e many m n).stands
 
--- Two tests, one after the other and at once
-pub split : {A : Type 0} (a b : Bool) (x y : A) → cond (a && b) x y ≡ cond a (cond b x y) y
-split true b x y = refl
-split false b x y = refl
-
--- ... behind others
-pub tested : {A : Type 0} {z : A} (good b : Bool) (x y : A) → z ≡ cond (good && b) x y → z ≡ cond good (cond b x y) y
-tested good b x y e = e ∙ split good b x y
+-- ---- rules
 
 -- From 0 on there is only a highest
 pub from_zero : (most n : ℕ) → between 0 most n ≡ leb n most
 from_zero most n = rw (le-leb 0 n (omega arith))
 
--- ---- two dates
+module _ {R H : Type 0} (held : R → H) (next : Place) (kind : RowKind R) (fs : Fields) where
+  -- 5 where there are not so many fields
+  pub not_many : (length fs ≡ kind.many → ⊥) → read_as held next (shaped kind fs) ≡ Err (refusal 5)
+  not_many n = rw (read_as, ne_eqb (length fs) kind.many n)
 
--- The second so many days after the first at most: what stands for no day is too far from every day
-pub following : {A : Type 0} (most : ℕ) → most < 1_000_000 → (first last : Date) (then : Day → Day → A) (other : A)
-    → cond (follows most first last) (then (day first) (day last)) other
-    ≡ cond (between 1 most (or_highest (day_of last) - or_highest (day_of first))) (then (or_highest (day_of first)) (or_highest (day_of last))) other
-following most few first last then other = go (day_of first) (day_of last) (day_below first) (day_below last)
-  where
-    go : (p q : Option Day) → ((d : Day) → p ≡ some d → d < 146_097) → ((d : Day) → q ≡ some d → d < 146_097)
-        → cond (given p && given q && between 1 most (Option.get_or q 0 - Option.get_or p 0)) (then (Option.get_or p 0) (Option.get_or q 0)) other
-        ≡ cond (between 1 most (or_highest q - or_highest p)) (then (or_highest p) (or_highest q)) other
-    go none none low high = refl
-    go none (some b) low high = let zero : b - highest ≡ 0 = omega (arith, high b refl) in rw zero
-    go (some a) none low high = let far : most < highest - a = omega (arith, low a refl) in rw (lt-leb _ _ far, and-false)
-    go (some a) (some b) low high = refl
+  -- 6 where its fields, held against rule 6, read as nothing
+  abbrev pub sixth : (R → Result (H × Place) Refusal) → Option R → Result (H × Place) Refusal
+  sixth then none = Err (refusal 6)
+  sixth then (some r) = then r
 
--- ---- what is said of a row
-
-module _ {R A : Type 0} (refuse : Number → A) (take_it : R → A) where
-  -- A row that was read, held against its rules; 6 where it was not
-  abbrev pub closed : (R → List Rule) → Option R → A
-  closed rules none = refuse 6
-  closed rules (some r) = told refuse take_it (judged 0 r (rules r))
-
-  module _ (kind : RowKind R) (fs : Fields) where
-    -- 5 where there are not so many fields
-    pub not_many : (length fs ≡ kind.many → ⊥) → told refuse take_it (shaped kind fs) ≡ refuse 5
-    not_many n = rw (ne_eqb (length fs) kind.many n, told)
-
-    -- and else what reading the fields gives
-    pub so_many : length fs ≡ kind.many → told refuse take_it (shaped kind fs) ≡ closed kind.own (kind.read fs)
-    so_many e = rw (eq-eqb (length fs) kind.many e, told) (go (kind.read fs))
+  module _ (many : length fs ≡ kind.many) (six : R → Bool) where
+    -- Else it is the row, where there is no other rule
+    pub one_rule : ((r : R) → kind.own r ≡ (6, six r) ∷ [])
+        → read_as held next (shaped kind fs) ≡ sixth (λ r. Ok (held r, next)) (kind.read fs >>= λ r. when (six r) r)
+    one_rule own = rw (read_as, eq-eqb (length fs) kind.many many) (go (kind.read fs))
       where
-        go : (o : Option R) → told refuse take_it (elim o [ none ↦ refused 6 0 | some r ↦ judged 0 r (kind.own r) ]) ≡ closed kind.own o
+        go : (o : Option R)
+            → read_as held next (elim o [ none ↦ refused 6 0 | some r ↦ judged 0 r (kind.own r) ]) ≡ sixth (λ r. Ok (held r, next)) (o >>= λ r. when (six r) r)
         go none = refl
-        go (some r) = refl
+        go (some r) = rw (own r) (test (six r))
+          where
+            test : (b : Bool) → read_as held next (judged 0 r ((6, b) ∷ [])) ≡ sixth (λ r. Ok (held r, next)) (when b r)
+            test true = refl
+            test false = refl
 
-  -- One rule decides, or two
-  pub one_rule : (number : Number) (r : R) (b : Bool) → told refuse take_it (judged 0 r ((number, b) ∷ [])) ≡ cond b (take_it r) (refuse number)
-  one_rule number r true = refl
-  one_rule number r false = refl
+    -- or by rule 7
+    pub two_rules : (seven : R → Bool) → ((r : R) → kind.own r ≡ (6, six r) ∷ (7, seven r) ∷ [])
+        → read_as held next (shaped kind fs)
+        ≡ sixth (λ r. cond (seven r) (Ok (held r, next)) (Err (refusal 7))) (kind.read fs >>= λ r. when (six r) r)
+    two_rules seven own = rw (read_as, eq-eqb (length fs) kind.many many) (go (kind.read fs))
+      where
+        go : (o : Option R)
+            → read_as held next (elim o [ none ↦ refused 6 0 | some r ↦ judged 0 r (kind.own r) ])
+            ≡ sixth (λ r. cond (seven r) (Ok (held r, next)) (Err (refusal 7))) (o >>= λ r. when (six r) r)
+        go none = refl
+        go (some r) = rw (own r) (first (six r))
+          where
+            second : (b : Bool) → read_as held next (judged 0 r ((7, b) ∷ [])) ≡ cond b (Ok (held r, next)) (Err (refusal 7))
+            second true = refl
+            second false = refl
 
-  pub two_rules : (first second : Number) (r : R) (a b : Bool)
-      → told refuse take_it (judged 0 r ((first, a) ∷ (second, b) ∷ [])) ≡ cond a (cond b (take_it r) (refuse second)) (refuse first)
-  two_rules first second r true b = one_rule second r b
-  two_rules first second r false b = refl
+            first : (a : Bool)
+                → read_as held next (judged 0 r ((6, a) ∷ (7, seven r) ∷ []))
+                ≡ sixth (λ r. cond (seven r) (Ok (held r, next)) (Err (refusal 7))) (when a r)
+            first true = second (seven r)
+            first false = refl
 
--- ---- one field after the other
+-- ---- what the fields gave
 
-module _ {R A : Type 0} (end : Option R → A) where
-  -- A field that is read and held against a test: the row goes on with what it is held as, or is refused as one that was not read
-  pub joint : {X : Type 0} (good : Bool) (o : Option X) (test : X → Bool) (held : X → ℕ) (next : X → Option R) (then : ℕ → A)
-      → let kept = o >>= λ x. when (test x) (held x) in
-      is_read (or_highest kept) ≡ given kept
-      → ((x : X) → end (next x) ≡ cond (good && test x) (then (held x)) (end none))
-      → end (o >>= next) ≡ cond good (cond (is_read (or_highest kept)) (then (or_highest kept)) (end none)) (end none)
-  joint true none test held next then read goes = refl
-  joint false none test held next then read goes = refl
-  joint {X} good (some x) test held next then read goes = go (test x) refl good (goes x)
+module _ {R H : Type 0} (held : R → H) (next : Place) (kind : RowKind R) (fs : Fields) (many : length fs ≡ kind.many) (six : R → Bool)
+    (own : (r : R) → kind.own r ≡ (6, six r) ∷ []) {read : answers.Option H}
+    (is : answer (map held (kind.read fs >>= λ r. when (six r) r)) ≡ read) where
+  -- Nothing: the row is refused 6
+  pub fields_none : read ≡ None → Err (refusal 6) ≡ read_as held next (shaped kind fs)
+  fields_none e = go (kind.read fs >>= λ r. when (six r) r) (is ∙ e) ∙ sym (one_rule held next kind fs many six own)
     where
-      go : (b : Bool) → test x ≡ b → (good : Bool) → end (next x) ≡ cond (good && test x) (then (held x)) (end none)
-          → let n = or_highest (when (test x) (held x)) in end (next x) ≡ cond good (cond (is_read n) (then n) (end none)) (end none)
-      go true e true more = more ∙ rw (e, rw e at read)
-      go true e false more = more
-      go false e true more = more ∙ rw e
-      go false e false more = more
+      go : (o : Option R) → answer (map held o) ≡ None → Err (refusal 6) ≡ sixth held next kind fs (λ r. Ok (held r, next)) o
+      go none e = refl
+      go (some r) e = cc
 
-  -- A letter has no test
-  pub lettered : {X : Type 0} (good : Bool) (o : Option X) (held : X → ℕ) (next : X → Option R) (then : ℕ → A)
-      → is_read (or_highest (map held o)) ≡ given o
-      → ((x : X) → end (next x) ≡ cond good (then (held x)) (end none))
-      → let n = or_highest (map held o) in end (o >>= next) ≡ cond good (cond (is_read n) (then n) (end none)) (end none)
-  lettered true none held next then read goes = refl
-  lettered false none held next then read goes = refl
-  lettered good (some x) held next then read goes = goes x ∙ rw read
-
-  -- A number from a lowest to a highest
-  pub ranged : (good : Bool) (lowest most : ℕ) (t : Text) (next : ℕ → Option R) (then : ℕ → A) → most < highest
-      → ((n : ℕ) → end (next n) ≡ cond (good && between lowest most n) (then n) (end none))
-      → let n = or_highest (ranged_in lowest most t) in end (number_in t >>= next) ≡ cond good (cond (is_read n) (then n) (end none)) (end none)
-  ranged good lowest most t next then low = joint good (number_in t) (between lowest most) (λ n. n) next then (ranged_read lowest most t low)
-
--- ---- a row of three numbers, each from a lowest to a highest
-
-module _ {R H A : Type 0} (kind : RowKind R) (refuse : Number → A) (row : H → Place → A) (held : R → H) (make : ℕ → ℕ → ℕ → R) (l1 h1 l2 h2 l3 h3 : ℕ)
-    (many : kind.many ≡ 4)
-    (reads : (fs : Fields) → kind.read fs ≡ (number_in (field 1 fs) >>= λ a. number_in (field 2 fs) >>= λ b. number_in (field 3 fs) >>= λ c. some (make a b c)))
-    (owns : (a b c : ℕ) → kind.own (make a b c) ≡ (6, between l1 h1 a && between l2 h2 b && between l3 h3 c) ∷ [])
-    (s1 : h1 < highest) (s2 : h2 < highest) (s3 : h3 < highest) where
-  -- By the texts of its fields, one field after the other
-  three_fields : (fs : Fields) (next : Place)
-      → let a = or_highest (ranged_in l1 h1 (field 1 fs)) in
-      let b = or_highest (ranged_in l2 h2 (field 2 fs)) in
-      let c = or_highest (ranged_in l3 h3 (field 3 fs)) in
-      closed refuse (λ r. row (held r) next) kind.own (kind.read fs) ≡ cond (is_read a && is_read b && is_read c) (row (held (make a b c)) next) (refuse 6)
-  three_fields fs next =
-      let end : Option R → A = closed refuse (λ r. row (held r) next) kind.own in
-      ap end (reads fs)
-      ∙ ranged end true l1 h1 (field 1 fs) _ _ s1 (λ a.
-      ranged end (between l1 h1 a) l2 h2 (field 2 fs) _ _ s2 λ b.
-      ranged end (between l1 h1 a && between l2 h2 b) l3 h3 (field 3 fs) _ (λ c. row (held (make a b c)) next) s3 λ c.
-      ap (λ (rules : List Rule). told refuse (λ r. row (held r) next) (judged 0 (make a b c) rules)) (owns a b c)
-      ∙ one_rule refuse (λ r. row (held r) next) 6 (make a b c) (between l1 h1 a && between l2 h2 b && between l3 h3 c))
-      ∙ sym (rw (split, split))
-
-  -- By what was read of its fields and whether anything was
-  pub three_there : (s : Text) (at : Place) (line : Line) → Lined s at line 4 → {a b c : ℕ} {p q r : Bool}
-      → a ≡ or_highest (ranged_in l1 h1 (field_text s line.ends 0)) → b ≡ or_highest (ranged_in l2 h2 (field_text s line.ends 1))
-      → c ≡ or_highest (ranged_in l3 h3 (field_text s line.ends 2)) → p ≡ is_read a → q ≡ is_read b → r ≡ is_read c
-      → cond (p && q && r) (row (held (make a b c)) line.next) (refuse 6) ≡ told refuse (λ r. row (held r) (line_at s at).next) (shaped kind (fields_at s at))
-  three_there s at line l e1 e2 e3 f1 f2 f3 =
-      sym
-      (so_many refuse (λ r. row (held r) (line_at s at).next) kind (fields_at s at) (l.count ∙ sym many)
-      ∙ three_fields (fields_at s at) (line_at s at).next
-      ∙ rw (l.parts 0 (omega arith), l.parts 1 (omega arith), l.parts 2 (omega arith), f1, f2, f3, e3, e2, e1, l.same))
+  -- or the row
+  pub fields_some : {h : H} → read ≡ Some h → Ok (h, next) ≡ read_as held next (shaped kind fs)
+  fields_some {h} e = go (kind.read fs >>= λ r. when (six r) r) (is ∙ e) ∙ sym (one_rule held next kind fs many six own)
+    where
+      go : (o : Option R) → answer (map held o) ≡ Some h → Ok (h, next) ≡ sixth held next kind fs (λ r. Ok (held r, next)) o
+      go none e = cc
+      go (some r) e = let same : h ≡ held r = cc in ap (λ (h : H). Ok (h, next)) same
 
 -- ---- a border or duration
 
@@ -226,13 +177,72 @@ duration_held kind (b ∷ t) = go kind (number_in (b ∷ t)) refl
     go floating none e = refl
     go floating (some n) e = refl
 
-module _ {R A : Type 0} (end : Option R → A) where
-  pub lasting : (good : Bool) (kind : Kind) (t : Text) (next : Option Duration → Option R) (then : ℕ → A)
-      → ((d : Option Duration) → end (next d) ≡ cond (good && is_duration kind d) (then (Option.get_or d 0)) (end none))
-      → let n = or_highest (duration_in (ltb (kind_number kind) 2) t) in
-      end (or_blank number_in t >>= next) ≡ cond good (cond (is_read n) (then n) (end none)) (end none)
+-- ---- one field after the other
+
+-- What follows, where a test holds
+abbrev pub gated : {A : Type 0} → Bool → Option A → Option A
+gated b o = elim b [ true ↦ o | false ↦ none ]
+
+module _ {R A : Type 0} (end : Option R → Option A) (ends : end none ≡ none) where
+  nothing : (good : Bool) → end none ≡ gated good none
+  nothing true = ends
+  nothing false = ends
+
+  -- A field that is read and held against a test: the row goes on with what it is held as, or there is none
+  pub joint : {X Y : Type 0} (good : Bool) (o : Option X) (test : X → Bool) (held : X → Y) (next : X → Option R) (then : Y → Option A)
+      → ((x : X) → end (next x) ≡ gated (good && test x) (then (held x)))
+      → end (o >>= next) ≡ gated good ((o >>= λ x. when (test x) (held x)) >>= then)
+  joint good none test held next then goes = nothing good
+  joint {X} good (some x) test held next then goes = go good (test x) (goes x)
+    where
+      go : (good b : Bool) → end (next x) ≡ gated (good && b) (then (held x)) → end (next x) ≡ gated good (when b (held x) >>= then)
+      go true true e = e
+      go true false e = e
+      go false b e = e
+
+  -- A letter has no test
+  pub lettered : {X Y : Type 0} (good : Bool) (o : Option X) (held : X → Y) (next : X → Option R) (then : Y → Option A)
+      → ((x : X) → end (next x) ≡ gated good (then (held x)))
+      → end (o >>= next) ≡ gated good (map held o >>= then)
+  lettered good none held next then goes = nothing good
+  lettered good (some x) held next then goes = goes x
+
+  -- A number from a lowest to a highest
+  pub ranged : (good : Bool) (lowest most : ℕ) (t : Text) (next : ℕ → Option R) (then : ℕ → Option A)
+      → ((n : ℕ) → end (next n) ≡ gated (good && between lowest most n) (then n))
+      → end (number_in t >>= next) ≡ gated good (ranged_in lowest most t >>= then)
+  ranged good lowest most t next then = joint good (number_in t) (between lowest most) (λ n. n) next then
+
+  -- A border or duration
+  pub lasting : (good : Bool) (kind : Kind) (t : Text) (next : Option Duration → Option R) (then : ℕ → Option A)
+      → ((d : Option Duration) → end (next d) ≡ gated (good && is_duration kind d) (then (Option.get_or d 0)))
+      → end (or_blank number_in t >>= next) ≡ gated good (duration_in (ltb (kind_number kind) 2) t >>= then)
   lasting good kind t next then goes =
-      let same = duration_held kind t in
-      joint end good (or_blank number_in t) (is_duration kind) (λ d. Option.get_or d 0) next then
-      (ap (λ (o : Option ℕ). is_read (or_highest o)) same ∙ duration_read (ltb (kind_number kind) 2) t ∙ ap given (sym same)) goes
-      ∙ ap (λ (o : Option ℕ). let n = or_highest o in cond good (cond (is_read n) (then n) (end none)) (end none)) same
+      joint good (or_blank number_in t) (is_duration kind) (λ d. Option.get_or d 0) next then goes
+      ∙ ap (λ (o : Option ℕ). gated good (o >>= then)) (duration_held kind t)
+
+-- ---- two dates
+
+-- Two days, the second so many days after the first at most
+abbrev pub spanned : ℕ → Option Day → Option Day → Option (Day × Day)
+spanned most p q = p >>= λ a. q >>= λ b. when (between 1 most (b - a)) (a, b)
+
+pub following : {A : Type 0} (most : ℕ) (first last : Date) (then : Day → Day → A) (other : A)
+    → cond (follows most first last) (then (day first) (day last)) other
+    ≡ elim (spanned most (day_of first) (day_of last)) [ none ↦ other | some s ↦ then s.0 s.1 ]
+following most first last then other = go (day_of first) (day_of last)
+  where
+    go : (p q : Option Day)
+        → cond (given p && given q && between 1 most (Option.get_or q 0 - Option.get_or p 0)) (then (Option.get_or p 0) (Option.get_or q 0)) other
+        ≡ elim (spanned most p q) [ none ↦ other | some s ↦ then s.0 s.1 ]
+    go none none = refl
+    go none (some b) = refl
+    go (some a) none = refl
+    go (some a) (some b) = test (between 1 most (b - a))
+      where
+        held : Bool → Option (Day × Day)
+        held t = when t (a, b)
+
+        test : (t : Bool) → cond t (then a b) other ≡ elim (held t) [ none ↦ other | some s ↦ then s.0 s.1 ]
+        test true = refl
+        test false = refl

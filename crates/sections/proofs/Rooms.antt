@@ -4,49 +4,46 @@ use Prim.Native.Nat.{ℕ, ◌+◌, ◌≤◌, ◌<◌}
 use native.Mathlib.Omega.{arith}
 use mathlib.Core.Bool.{Bool, true, false}
 use mathlib.Core.List.{List, [], ◌∷◌, reverse}
-use mathlib.Core.Path.{◌≡◌, refl, sym, ap, ◌∙◌}
+use mathlib.Core.Option as maybe
+use mathlib.Core.Option.{none, some}
+use mathlib.Core.Path.{◌≡◌, refl, sym, ap, ◌∙◌, subst}
+use Rattle.std.proofs.Common.{Option, Some, None, Result, Ok, Err}
 use lib.Dec as dec
 use lib.ListN.{length, set, length-reverse}
 use Rattle.paper.specs.Units.{Byte, Text}
 use Rattle.paper.specs.Refusals.{RowKind}
 use Rattle.paper.specs.Tables.{hold}
-use Rattle.paper.proofs.Outcomes.{numbered}
 use Rattle.places.specs.Places.{Place, ended_length, line_at}
 use Rattle.tables.specs.Padded.{table_of}
 use Rattle.tables.proofs.Padded.{table_more}
-use Rattle.sections.specs.Sections.{fields_at, goes_on, shaped, told, broken}
-use Rattle.sections.specs.declared.Section.{Section}
+use Rattle.answers.specs.Options.{answer}
+use Rattle.answers.specs.Refusals.{refusal}
+use Rattle.answers.specs.declared.Refusal.{Refusal}
+use Rattle.answers.specs.declared.Refused.{Refused}
+use Rattle.sections.specs.Sections.{fields_at, goes_on, shaped, broken, read_as}
 use Rattle.sections.proofs.Loops as loops
-use Rattle.sections.proofs.Loops.{Kept, Words, Going, going_start, going_ended, line_refused, LineRow, line_row, result_refused, result_ended}
+use Rattle.sections.proofs.Loops.{Kept, Going, going_start, going_ended, line_refused, LineRow, line_row, result_refused, result_ended}
 
--- What a section's room has: its row kind, with its letter as a byte; how the code says a refusal and a row of the line at a place; how
--- a row is kept in a table of so many places; and how the section is made of how it went and of its table
-pub record Room (R A H K S T : Type 0) : Type 0 where
+-- What a section's room has: its row kind, with its letter as a byte; how a row of the line at a place is held; and how it is kept in
+-- a table of so many places
+pub record Room (R H K T : Type 0) : Type 0 where
   pub kind : RowKind R
-  pub numbers : (above : List R) (r : R) → numbered (kind.others above r) ≡ true
   pub letter : Byte
   pub its_letter : kind.letter ≡ letter ∷ []
-  pub refuse : ℕ → A
-  pub row : H → Place → A
-  pub words : Words refuse row
   pub held : Text → Place → R → H
   pub most : ℕ
   pub free : K
   pub kept : R → K
-  pub make : Section → T → S
   pub table : List R → T
 
-module _ {R A H K S T : Type 0} (room : Room R A H K S T) where
-  -- The section, as the code holds it; and with a refusal, so many rows above it
-  abbrev pub result : Text → Place → S
-  result sheet from = loops.result room.kind sheet from room.make room.table
-
-  abbrev pub refused_with : ℕ → ℕ → S
-  refused_with number count = room.make (record { refusal = number; count = count; next = 0 }) (room.table [])
+module _ {R H K T : Type 0} (room : Room R H K T) where
+  -- What the section answers
+  abbrev pub result : Text → Place → Result (T × Place) Refused
+  result sheet from = loops.result room.kind sheet from room.table
 
   -- What the line at a place is read as
-  abbrev pub read_at : Text → Place → A
-  read_at sheet at = told room.refuse (λ r. room.row (room.held sheet at r) (line_at sheet at).next) (shaped room.kind (fields_at sheet at))
+  abbrev pub read_at : Text → Place → Result (H × Place) Refusal
+  read_at sheet at = read_as (room.held sheet at) (line_at sheet at).next (shaped room.kind (fields_at sheet at))
 
   -- After so many rows
   pub record Turn (sheet : Text) (from : Place) (rows : List K) (count : ℕ) (at : Place) : Type 0 where
@@ -61,28 +58,28 @@ module _ {R A H K S T : Type 0} (room : Room R A H K S T) where
   module _ {sheet : Text} {from : Place} {rows : List K} {count : ℕ} {at : Place} (t : Turn sheet from rows count at) where
     module _ (on : goes_on sheet at (ended_length sheet) room.letter ≡ true) where
       -- A line that is refused by itself refuses the section
-      pub turn_refused : (number : ℕ) → read_at sheet at ≡ room.refuse number → refused_with number count ≡ result sheet from
-      turn_refused number e =
-          result_refused room.kind sheet from room.make room.table number count
-          (line_refused room.kind room.numbers room.letter room.its_letter room.words (room.held sheet at) t.going on number e)
+      pub turn_refused : (f : Refusal) → read_at sheet at ≡ Err f → Err (record { refusal = f; line = count }) ≡ result sheet from
+      turn_refused f e =
+          let (number, stopped, is) = line_refused room.kind room.letter room.its_letter (room.held sheet at) t.going on f e in
+          subst (λ (f : Refusal). Err (record { refusal = f; line = count }) ≡ result sheet from) is
+          (result_refused room.kind sheet from room.table number count stopped)
 
       -- A row that was read is one of the paper's
       abbrev pub Read : H → Place → Type 0
-      Read = LineRow room.kind room.numbers room.letter room.its_letter room.words (room.held sheet at) t.going on
+      Read = LineRow room.kind room.letter room.its_letter (room.held sheet at) t.going on
 
-      pub turn_row : (h : H) (next : Place) → read_at sheet at ≡ room.row h next → Read h next
-      turn_row = line_row room.kind room.numbers room.letter room.its_letter room.words (room.held sheet at) t.going on
+      pub turn_row : (h : H) (next : Place) → read_at sheet at ≡ Ok (h, next) → Read h next
+      turn_row = line_row room.kind room.letter room.its_letter (room.held sheet at) t.going on
 
       -- It is judged by its rules on other rows
-      module _ {h : H} {next : Place} (r : Read h next) {number : ℕ} (judged : number ≡ broken (room.kind.others t.above r.row_is)) where
-        pub turn_broken : (number ≡ 0 → ⊥) → refused_with number count ≡ result sheet from
-        turn_broken other =
-            ap (λ (n : ℕ). refused_with n count) judged
-            ∙ result_refused room.kind sheet from room.make room.table _ count (r.refuses (λ none. other (judged ∙ none)))
+      module _ {h : H} {next : Place} (r : Read h next) where
+        pub turn_broken : (number : ℕ) → broken (room.kind.others t.above r.row_is) ≡ some number
+            → Err (record { refusal = refusal number; line = count }) ≡ result sheet from
+        turn_broken number first = result_refused room.kind sheet from room.table number count (r.refuses number first)
 
-        module _ (clear : number ≡ 0) where
+        module _ (clear : broken (room.kind.others t.above r.row_is) ≡ none) where
           pub turn_going : Going room.kind sheet from (r.row_is ∷ t.above) (count + 1) next
-          turn_going = r.goes (sym judged ∙ clear)
+          turn_going = r.goes clear
 
           -- Where it breaks none, it keeps all with the rows above, and is put into the table
           pub turn_kept : Kept room.kind (r.row_is ∷ t.above)
@@ -103,20 +100,28 @@ module _ {R A H K S T : Type 0} (room : Room R A H K S T) where
     turn_counted = t.going.counted ∙ sym (length-reverse t.above)
 
     pub turn_ended : goes_on sheet at (ended_length sheet) room.letter ≡ false → {x : T} → x ≡ room.table (reverse t.above)
-        → room.make (record { refusal = 0; count = count; next = at }) x ≡ result sheet from
+        → Ok (x, at) ≡ result sheet from
     turn_ended off {x} is =
-        result_ended room.kind sheet from room.make room.table t.going
-        (going_ended room.kind room.numbers room.letter room.its_letter t.going off) x is
+        result_ended room.kind sheet from room.table t.going (going_ended room.kind room.letter room.its_letter t.going off) x is
 
 -- What a section keeps of the rows above, and how the code judges a row by it: as the paper does, and no more rows than there is room for
-pub record Judge {R A H K S T : Type 0} (room : Room R A H K S T) (Z : Type 0) : Type 0 where
+pub record Judge {R H K T : Type 0} (room : Room R H K T) (Z : Type 0) : Type 0 where
   pub tell : List R → Z
-  pub judge : Z → ℕ → H → ℕ
+  pub judge : Z → ℕ → H → Option Refusal
   pub alike : (sheet : Text) (at : Place) (above : List R) (r : R) → Kept room.kind above → dec.T (hold (room.kind.own r))
-      → judge (tell above) (length above) (room.held sheet at r) ≡ broken (room.kind.others above r)
+      → judge (tell above) (length above) (room.held sheet at r) ≡ answer (maybe.map refusal (broken (room.kind.others above r)))
   pub few : {above : List R} {r : R} → Kept room.kind (r ∷ above) → length above < room.most
 
-module _ {R A H K S T Z : Type 0} {room : Room R A H K S T} (judge : Judge room Z) where
+-- A refusal that was answered is that of a number; where none was, there is no number
+refusal_some : (o : maybe.Option ℕ) (f : Refusal) → answer (maybe.map refusal o) ≡ Some f → (number : ℕ) × (o ≡ some number) × (refusal number ≡ f)
+refusal_some none f e = cc
+refusal_some (some n) f e = (n, refl, cc)
+
+refusal_none : (o : maybe.Option ℕ) → answer (maybe.map refusal o) ≡ None → o ≡ none
+refusal_none none e = refl
+refusal_none (some n) e = cc
+
+module _ {R H K T Z : Type 0} {room : Room R H K T} (judge : Judge room Z) where
   -- After so many rows, with what is kept of them
   pub record Judging (sheet : Text) (from : Place) (rows : List K) (count : ℕ) (at : Place) (seen : Z) : Type 0 where
     pub turn : Turn room sheet from rows count at
@@ -129,9 +134,9 @@ module _ {R A H K S T Z : Type 0} {room : Room R A H K S T} (judge : Judge room 
       pub held_is : room.held sheet at row_is ≡ h
       pub own : dec.T (hold (room.kind.own row_is))
       pub further : (at < next) × (next ≤ ended_length sheet)
-      pub refuses : (number : ℕ) → number ≡ judge.judge seen count h → (number ≡ 0 → ⊥) → refused_with room number count ≡ result room sheet from
-      pub free : (number : ℕ) → number ≡ judge.judge seen count h → number ≡ 0 → count < room.most
-      pub more : (number : ℕ) → number ≡ judge.judge seen count h → number ≡ 0 → (k : K) → k ≡ room.kept row_is
+      pub refuses : (f : Refusal) → judge.judge seen count h ≡ Some f → Err (record { refusal = f; line = count }) ≡ result room sheet from
+      pub free : judge.judge seen count h ≡ None → count < room.most
+      pub more : judge.judge seen count h ≡ None → (k : K) → k ≡ room.kept row_is
           → (z : Z) → z ≡ judge.tell (row_is ∷ t.turn.above) → Judging sheet from (set rows count k) (count + 1) next z
 
     -- By what the loop's test says
@@ -139,30 +144,33 @@ module _ {R A H K S T Z : Type 0} {room : Room R A H K S T} (judge : Judge room 
       tested : goes_on sheet at (ended_length sheet) room.letter ≡ on
       tested = ap (λ (n : Place). goes_on sheet at n room.letter) (sym ends) ∙ sym goes
 
-      pub judging_ended : on ≡ false → {x : T} → x ≡ room.table (reverse t.turn.above)
-          → room.make (record { refusal = 0; count = count; next = at }) x ≡ result room sheet from
+      pub judging_ended : on ≡ false → {x : T} → x ≡ room.table (reverse t.turn.above) → Ok (x, at) ≡ result room sheet from
       judging_ended off = turn_ended room t.turn (tested ∙ off)
 
-      module _ (yes : on ≡ true) {read : A} (is : read ≡ read_at room sheet at) where
-        pub judging_refused : {number : ℕ} → read ≡ room.refuse number → refused_with room number count ≡ result room sheet from
-        judging_refused {number} e = turn_refused room t.turn (tested ∙ yes) number (sym is ∙ e)
+      module _ (yes : on ≡ true) {read : Result (H × Place) Refusal} (is : read ≡ read_at room sheet at) where
+        pub judging_refused : {f : Refusal} → read ≡ Err f → Err (record { refusal = f; line = count }) ≡ result room sheet from
+        judging_refused {f} e = turn_refused room t.turn (tested ∙ yes) f (sym is ∙ e)
 
-        pub judging_row : {h : H} {next : Place} → read ≡ room.row h next → Taken h next
+        pub judging_row : {h : H} {next : Place} → read ≡ Ok (h, next) → Taken h next
         judging_row {h} {next} e =
             let r = turn_row room t.turn (tested ∙ yes) h next (sym is ∙ e) in
-            let same : judge.judge seen count h ≡ broken (room.kind.others t.turn.above r.row_is) =
+            let same : judge.judge seen count h ≡ answer (maybe.map refusal (broken (room.kind.others t.turn.above r.row_is))) =
             (λ i. judge.judge (t.seen_is i) (t.turn.going.counted i) (sym r.held_is i)) ∙ judge.alike sheet at t.turn.above r.row_is t.turn.going.kept r.own
             in
-            let room_for : (number : ℕ) → number ≡ judge.judge seen count h → number ≡ 0 → count < room.most = λ number j n.
-            omega (arith, t.turn.going.counted, judge.few (turn_kept room t.turn (tested ∙ yes) r (j ∙ same) n))
+            let clear : judge.judge seen count h ≡ None → broken (room.kind.others t.turn.above r.row_is) ≡ none = λ n. refusal_none _ (sym same ∙ n) in
+            let room_for : judge.judge seen count h ≡ None → count < room.most = λ n.
+            omega (arith, t.turn.going.counted, judge.few (turn_kept room t.turn (tested ∙ yes) r (clear n)))
             in
             record {
               row_is = r.row_is;
               held_is = r.held_is;
               own = r.own;
               further = r.further;
-              refuses = λ number j. turn_broken room t.turn (tested ∙ yes) r (j ∙ same);
+              refuses = λ f j.
+                  let (number, first, is) = refusal_some _ f (sym same ∙ j) in
+                  subst (λ (f : Refusal). Err (record { refusal = f; line = count }) ≡ result room sheet from) is
+                  (turn_broken room t.turn (tested ∙ yes) r number first);
               free = room_for;
-              more = λ number j n k keeps z tells.
-                  record { turn = turn_more room t.turn (tested ∙ yes) r (j ∙ same) n (room_for number j n) keeps; seen_is = tells };
+              more = λ n k keeps z tells.
+                  record { turn = turn_more room t.turn (tested ∙ yes) r (clear n) (room_for n) keeps; seen_is = tells };
             }

@@ -8,9 +8,11 @@ use mathlib.Core.List.{List, [], ◌∷◌, ◌++◌, map, reverse, head-eq_of_c
 use mathlib.Core.Logic.{⊎_elim}
 use mathlib.Core.Option.{Option, none, some}
 use mathlib.Core.Path.{◌≡◌, refl, sym, ap, ap₂, ◌∙◌, subst}
-use lib.Dec.{T, eqb}
+use lib.Dec as dec
+use lib.Dec.{eqb}
+use Rattle.std.proofs.Common.{Result, Ok, Err}
 use lib.ListN.{length, drop, length-drop}
-use Rattle.paper.specs.Units.{Text, Fields, Line}
+use Rattle.paper.specs.Units.{Text, Fields, Line, Number}
 use Rattle.paper.specs.Text.{lines}
 use Rattle.paper.specs.Refusals.{Outcome, refused, accepted, ◌>>=◌, Rule, judged, RowKind, rules_of}
 use Rattle.paper.specs.Sheet.{Rest, begins, row, rows_from, section}
@@ -21,8 +23,9 @@ use Rattle.paper.proofs.Outcomes.{Sound, numbered}
 use Rattle.paper.proofs.Sections.{Inverse, section_written, rows_sound}
 use Rattle.places.specs.Places.{Place, ended_length, line_at}
 use Rattle.places.proofs.Places.{line_there, no_line, unended_line, ended_most}
-use Rattle.sections.specs.Sections.{next_after, section_of, rows_in}
-use Rattle.sections.specs.declared.Section.{Section}
+use Rattle.answers.specs.Refusals.{refusal}
+use Rattle.answers.specs.declared.Refused.{Refused}
+use Rattle.sections.specs.Sections.{next_after, section_as, rows_in}
 use Rattle.sections.proofs.Loops.{whole}
 
 -- ---- lines counted from another one
@@ -114,65 +117,81 @@ pub record Staged {R : Type 0} (kind : RowKind R) : Type 0 where
   pub numbers : (above : List R) (r : R) → numbered (rules_of kind above r) ≡ true
 
 -- A reading that goes on with a section, its lines counted from a line, and then with what is behind it
-module _ {R B : Type 0} (kind : RowKind R) (staged : Staged kind) (sheet : Text) (from : Place) (h : from ≤ ended_length sheet)
+module _ {R B T : Type 0} (kind : RowKind R) (staged : Staged kind) (table : List R → T) (sheet : Text) (from : Place) (h : from ≤ ended_length sheet)
     (at : Line) (next : List R × Rest → Outcome B) (reading : Outcome B) (so_far : reading ≡ (section kind (at, lines (drop from sheet)) >>= next)) where
-  -- It is refused, or goes on behind the section's rows
-  data Stage (o : Outcome (List R × Rest)) (x : Section) : Type 0 where
-    stopped : 1 ≤ x.refusal → x.count ≤ length sheet → reading ≡ refused x.refusal (at + x.count) → Stage o x
-    went : x.refusal ≡ 0 → x.count ≡ length (rows_in o) → T (hold_down kind [] (rows_in o)) → x.next ≤ ended_length sheet
-        → reading ≡ next (rows_in o, (at + x.count, lines (drop x.next sheet))) → Stage o x
+  -- It is refused where the section is, so many lines further down
+  pub record Exit (f : Refused) : Type 0 where
+    pub number : Number
+    pub is : refusal number ≡ f.refusal
+    pub low : 1 ≤ number
+    pub few : f.line ≤ length sheet
+    pub stops : reading ≡ refused number (at + f.line)
 
-  stage : (x : Section) → x ≡ section_of sheet from (whole kind sheet from) → Stage (whole kind sheet from) x
-  stage x is = subst (Stage (whole kind sheet from)) (sym is) (go (whole kind sheet from) refl)
+  -- or goes on behind the section's rows, which keep the rules
+  pub record Open (t : T) (behind : Place) : Type 0 where
+    pub rows : List R
+    pub is : t ≡ table rows
+    pub read : rows ≡ rows_in (whole kind sheet from)
+    pub down : dec.T (hold_down kind [] rows)
+    pub within : behind ≤ ended_length sheet
+    pub goes : reading ≡ next (rows, (at + length rows, lines (drop behind sheet)))
+
+  data Stage : Result (T × Place) Refused → Type 0 where
+    stopped : {f : Refused} → Exit f → Stage (Err f)
+    went : {t : T} {behind : Place} → Open t behind → Stage (Ok (t, behind))
+
+  stage : Stage (section_as table sheet from (whole kind sheet from))
+  stage = go (whole kind sheet from) refl
     where
       counted : (o : Outcome (List R × Rest)) → whole kind sheet from ≡ o → reading ≡ (further_rest at o >>= next)
       counted o e =
           so_far
           ∙ ap (λ (o : Outcome (List R × Rest)). o >>= next) (section_further kind at (lines (drop from sheet)) ∙ ap (further_rest at) e)
 
-      go : (o : Outcome (List R × Rest)) → whole kind sheet from ≡ o → Stage o (section_of sheet from o)
+      go : (o : Outcome (List R × Rest)) → whole kind sheet from ≡ o → Stage (section_as table sheet from o)
       go (refused number line) e =
           let fss = lines (drop from sheet) in
           let sound = subst (Sound (length fss)) e (rows_sound kind staged.numbers (length fss) [] 0 fss (omega arith)) in
-          stopped sound.0 (omega (arith, sound.2, lines_fewer (drop from sheet), length-drop from sheet)) (counted (refused number line) e)
+          stopped
+          (record {
+            number = number;
+            is = refl;
+            low = sound.0;
+            few = omega (arith, sound.2, lines_fewer (drop from sheet), length-drop from sheet);
+            stops = counted (refused number line) e;
+          })
       go (accepted (rs, rest)) e =
           let (down, split, line) = section_written kind staged.inverse (0, lines (drop from sheet)) rs rest e in
           let (behind, within) = after_rows sheet kind.write staged.some_field from rs rest.1 h split in
           let rest_is : rest ≡ (length rs, lines (drop (next_after sheet from (length rs)) sheet)) =
           ap₂ (λ (n : Line) (fss : List Fields). (n, fss)) (line ∙ omega arith) (sym behind)
           in
-          went refl refl down within (counted (accepted (rs, rest)) e ∙ ap (λ (r : Rest). next (rs, (at + r.0, r.1))) rest_is)
+          went
+          (record {
+            rows = rs;
+            is = refl;
+            read = ap rows_in (sym e);
+            down = down;
+            within = within;
+            goes = counted (accepted (rs, rest)) e ∙ ap (λ (r : Rest). next (rs, (at + r.0, r.1))) rest_is;
+          })
 
-  module _ (x : Section) (is : x ≡ section_of sheet from (whole kind sheet from)) where
-    -- A section with a refusal refuses the reading
-    pub exits : (x.refusal ≡ 0 → ⊥) → refused x.refusal (at + x.count) ≡ reading
-    exits other = go (stage x is)
+  module _ (x : Result (T × Place) Refused) (is : x ≡ section_as table sheet from (whole kind sheet from)) where
+    pub exits : (f : Refused) → x ≡ Err f → Exit f
+    exits f e = go _ stage (sym is ∙ e)
       where
-        go : Stage (whole kind sheet from) x → refused x.refusal (at + x.count) ≡ reading
-        go (stopped low lines e) = sym e
-        go (went zero n down within e) = absurd (other zero)
+        go : (y : Result (T × Place) Refused) → Stage y → y ≡ Err f → Exit f
+        go (Err g) (stopped s) e = let one : g ≡ f = cc in subst Exit one s
+        go (Ok read) (went s) e = cc
 
-    -- Its rows, or those above its refusal, are few
-    pub few : (most : ℕ) → ((rs : List R) → T (hold_down kind [] rs) → length rs ≤ most) → x.count ≤ most + length sheet
-    few most bound = go (stage x is)
+    pub opens : (t : T) (behind : Place) → x ≡ Ok (t, behind) → Open t behind
+    opens t behind e = go _ stage (sym is ∙ e)
       where
-        go : Stage (whole kind sheet from) x → x.count ≤ most + length sheet
-        go (stopped low lines e) = omega arith
-        go (went zero n down within e) = omega (arith, bound (rows_in (whole kind sheet from)) down)
-
-    -- One without is gone on from behind its rows, which keep the rules
-    pub record Open : Type 0 where
-      pub count : x.count ≡ length (rows_in (whole kind sheet from))
-      pub down : T (hold_down kind [] (rows_in (whole kind sheet from)))
-      pub within : x.next ≤ ended_length sheet
-      pub goes : reading ≡ next (rows_in (whole kind sheet from), (at + x.count, lines (drop x.next sheet)))
-
-    pub opens : x.refusal ≡ 0 → Open
-    opens clear = go (stage x is)
-      where
-        go : Stage (whole kind sheet from) x → Open
-        go (stopped low lines e) = absurd (omega arith)
-        go (went zero n down within e) = record { count = n; down = down; within = within; goes = e }
+        go : (y : Result (T × Place) Refused) → Stage y → y ≡ Ok (t, behind) → Open t behind
+        go (Err g) (stopped s) e = cc
+        go (Ok (u, after)) (went s) e =
+            let one : (u, after) ≡ (t, behind) = cc in
+            subst (λ (p : T × Place). Open p.0 p.1) one s
 
 -- ---- one section after the other
 
@@ -181,13 +200,11 @@ pub record Standing {R B : Type 0} (kind : RowKind R) (next : List R × Rest →
   pub within : from ≤ ended_length sheet
   pub goes : reading ≡ (section kind (at, lines (drop from sheet)) >>= next)
 
-module _ {R B : Type 0} {kind : RowKind R} {sheet : Text} {from : Place} {at : Line} {next : List R × Rest → Outcome B} {reading : Outcome B}
-    (s : Standing kind next sheet from at reading) (staged : Staged kind) (x : Section) (is : x ≡ section_of sheet from (whole kind sheet from)) where
-  pub stopped_there : (x.refusal ≡ 0 → ⊥) → refused x.refusal (at + x.count) ≡ reading
-  stopped_there = exits kind staged sheet from s.within at next reading s.goes x is
+module _ {R B T : Type 0} {kind : RowKind R} {sheet : Text} {from : Place} {at : Line} {next : List R × Rest → Outcome B} {reading : Outcome B}
+    (s : Standing kind next sheet from at reading) (staged : Staged kind) (table : List R → T)
+    (x : Result (T × Place) Refused) (is : x ≡ section_as table sheet from (whole kind sheet from)) where
+  pub stopped_there : (f : Refused) → x ≡ Err f → Exit kind staged table sheet from s.within at next reading s.goes f
+  stopped_there = exits kind staged table sheet from s.within at next reading s.goes x is
 
-  pub few_there : (most : ℕ) → ((rs : List R) → T (hold_down kind [] rs) → length rs ≤ most) → x.count ≤ most + length sheet
-  few_there = few kind staged sheet from s.within at next reading s.goes x is
-
-  pub opened : x.refusal ≡ 0 → Open kind staged sheet from s.within at next reading s.goes x is
-  opened = opens kind staged sheet from s.within at next reading s.goes x is
+  pub opened : (t : T) (behind : Place) → x ≡ Ok (t, behind) → Open kind staged table sheet from s.within at next reading s.goes t behind
+  opened = opens kind staged table sheet from s.within at next reading s.goes x is

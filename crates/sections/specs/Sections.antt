@@ -1,13 +1,15 @@
--- Sections by their places: the fields of a line, whether a section goes on there, and a row judged in two steps, by itself and
--- by other rows.
-use Rattle.std.specs.Prelude.{ℕ, zero, suc, Bool, true, false, ◌&&◌, List, [], ◌∷◌, eqb, ltb, length, get_or, drop}
-use Rattle.std.proofs.Math.Option.{none, some}
+-- Sections by their places: the fields of a line, whether a section goes on there, a row judged in two steps, by itself and by
+-- other rows, and what the code answers of a row and of a section.
+use Rattle.std.specs.Prelude.{ℕ, zero, suc, Bool, true, false, ◌&&◌, List, [], ◌∷◌, eqb, ltb, length, get_or, drop, Result, Ok, Err}
+use Rattle.std.proofs.Math.Option.{Option, none, some}
 use Rattle.paper.specs.Units.{Byte, Text, Fields, Number}
 use Rattle.paper.specs.Text.{lines}
 use Rattle.paper.specs.Refusals.{Outcome, refused, accepted, Rule, judged, RowKind}
 use Rattle.paper.specs.Sheet.{Rest, begins}
 use Rattle.places.specs.Places.{Place, line_at}
-use Rattle.sections.specs.declared.Section.{Section}
+use Rattle.answers.specs.Refusals.{refusal}
+use Rattle.answers.specs.declared.Refusal.{Refusal}
+use Rattle.answers.specs.declared.Refused.{Refused}
 
 -- The fields of the line that starts at a place
 abbrev pub fields_at : Text → Place → Fields
@@ -30,20 +32,20 @@ shaped kind fs =
       | true ↦ elim (kind.read fs) [ none ↦ refused 6 0 | some r ↦ judged 0 r (kind.own r) ]
     ]
 
--- What reading a row answers, by how the code says a refusal and a row
-abbrev pub told : {R A : Type 0} → (Number → A) → (R → A) → Outcome R → A
-told refuse take_it (refused number line) = refuse number
-told refuse take_it (accepted r) = take_it r
+-- By other rows: the number of the first rule that fails, where one does
+abbrev pub broken : List Rule → Option Number
+broken [] = none
+broken (rule ∷ rules) = elim rule.1 [ true ↦ broken rules | false ↦ some rule.0 ]
 
--- By other rows: the number of the first rule that fails, 0 where none does
-abbrev pub broken : List Rule → Number
-broken [] = 0
-broken (rule ∷ rules) = elim rule.1 [ true ↦ broken rules | false ↦ rule.0 ]
+-- What reading a row answers: the row as it is held, with the place of the next line, or its refusal
+abbrev pub read_as : {R H : Type 0} → (R → H) → Place → Outcome R → Result (H × Place) Refusal
+read_as held next (refused number line) = Err (refusal number)
+read_as held next (accepted r) = Ok (held r, next)
 
--- How the section that starts at a place went
-abbrev pub section_of : {R : Type 0} → Text → Place → Outcome (List R × Rest) → Section
-section_of sheet from (refused number line) = record { refusal = number; count = line; next = 0 }
-section_of sheet from (accepted read) = record { refusal = 0; count = length read.0; next = next_after sheet from (length read.0) }
+-- What the section that starts at a place answers: the table of its rows, with the place of the line behind them, or its refusal
+abbrev pub section_as : {R T : Type 0} → (List R → T) → Text → Place → Outcome (List R × Rest) → Result (T × Place) Refused
+section_as table sheet from (refused number line) = Err (record { refusal = refusal number; line = line })
+section_as table sheet from (accepted read) = Ok (table read.0, next_after sheet from (length read.0))
 
 -- Its rows; none where it is refused
 abbrev pub rows_in : {R : Type 0} → Outcome (List R × Rest) → List R

@@ -1,5 +1,5 @@
-// Sections of a sheet: whether one goes on at a line, and how it went. How a section's loop goes, and how a row's fields are read,
-// is said once, over the row kind, in proofs.
+// Sections of a sheet: whether one goes on at a line. What a row and a section answer, how a section's loop goes, and how a row's
+// fields are read, is said once, over the row kind, in specs and proofs.
 #![tactic(auto)]
 
 ghost use Rattle.std.specs.Prelude.{◌≡◌};
@@ -7,16 +7,6 @@ ghost use Rattle.places.specs.Places.{ended_length};
 ghost use Rattle.sections.specs.Sections.{goes_on};
 
 use places::Place;
-
-pub type Number = u64; // of a refusal
-
-// How a section went: its rows, and where the next line starts; or its refusal, and how many rows stand above it.
-#[derive(Drop)]
-pub struct Section {
-    pub refusal: Number, // 0 where none
-    pub count: usize, // rows
-    pub next: Place, // 0 where it is refused
-}
 
 // Whether a section goes on at a place: a line stands there, and its whole first field is the section's letter.
 // `end` is the place behind the last LF of the sheet.
@@ -36,8 +26,8 @@ pub fn goes_on(
         return false;
     }
     let b = s[at + 1]; // a byte
-    if b == 59 {
+    if b == b';' {
         return true;
     }
-    b == 10
+    b == b'\n'
 }
