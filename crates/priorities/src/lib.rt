@@ -83,9 +83,10 @@ pub fn priority_section(
     from: Place,
     end: Place,
     classes: &Classes,
+    first: u32, // line of the first row
 ) -> Result<(Priorities, Place), Refused>
     requires { (from ≤ end) × (end ≡ ended_length s.now) × (classes.now.count ≤ 40) × (ranged classes.now ≡ true) }
-    ensures { result ≡ priority_section s.now from (section (priority_kind (paper_classes classes.now)) (0, lines (drop from s.now))) }
+    ensures { result ≡ priority_section s.now from (section (priority_kind (paper_classes classes.now)) (first, lines (drop from s.now))) }
 {
     let known = known_classes(classes);
     let mut table = tables::no_priorities();
@@ -95,13 +96,13 @@ pub fn priority_section(
         let Ok((row, next)) = read else {
             return Err(Refused {
                 refusal: read.unwrap_err(),
-                line: table.count as u64,
+                line: first as u64 + table.count as u64,
             });
         };
         if let Some(refusal) = broken(&known, table.count, row) {
             return Err(Refused {
                 refusal,
-                line: table.count as u64,
+                line: first as u64 + table.count as u64,
             });
         }
         table.rows[table.count] = row;

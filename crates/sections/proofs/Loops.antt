@@ -1,6 +1,7 @@
 -- A section read line by line, as a loop does it: how it starts, goes on, is refused, and ends. Said once, over the row kind.
 use Prim.Native.Nat.{ℕ, zero, suc, ◌+◌, ◌≤◌, ◌<◌}
 use native.Mathlib.Nat.{eq-or-lt_of_le}
+use native.Mathlib.Nat.{add-zero, add-suc}
 use native.Mathlib.Numerals.{add-one}
 use native.Mathlib.Omega.{arith}
 use mathlib.Core.Bool.{Bool, true, false, ◌&&◌}
@@ -139,14 +140,14 @@ next_more sheet from (suc n) = next_more sheet (line_at sheet from).next n
 pub goes_before : (sheet : Text) (at end : Place) (letter : Byte) → goes_on sheet at end letter ≡ true → at < end
 goes_before sheet at end letter on = ltb-true at end (both (ltb at end) (begins (letter ∷ []) (fields_at sheet at)) on).0
 
-module _ {R : Type 0} (kind : RowKind R) (sheet : Text) (from : Place) where
-  -- What the section gives, lines being counted from 0
+module _ {R : Type 0} (kind : RowKind R) (sheet : Text) (from : Place) (first : Line) where
+  -- What the section gives, whose first row would be on a line
   abbrev pub whole : Outcome (List R × Rest)
-  whole = section kind (0, lines (drop from sheet))
+  whole = section kind (first, lines (drop from sheet))
 
   -- After so many rows, at the line behind them: they keep the rules, and the section goes on from there
   pub record Going (above : List R) (count : ℕ) (at : Place) : Type 0 where
-    pub so_far : whole ≡ rows_from kind above count (lines (drop at sheet))
+    pub so_far : whole ≡ rows_from kind above (first + count) (lines (drop at sheet))
     pub counted : count ≡ length above
     pub placed : at ≡ next_after sheet from count
     pub within : at ≤ ended_length sheet
@@ -154,10 +155,10 @@ module _ {R : Type 0} (kind : RowKind R) (sheet : Text) (from : Place) where
 
   -- At the start
   pub going_start : from ≤ ended_length sheet → Going [] 0 from
-  going_start h = record { so_far = refl; counted = refl; placed = refl; within = h; kept = none_kept }
+  going_start h = record { so_far = ap (λ (n : Line). rows_from kind [] n (lines (drop from sheet))) (sym (add-zero first)); counted = refl; placed = refl; within = h; kept = none_kept }
 
 module _ {R : Type 0} (kind : RowKind R) (letter : Byte) (its_letter : kind.letter ≡ letter ∷ [])
-    {sheet : Text} {from : Place} {above : List R} {count : ℕ} {at : Place} (g : Going kind sheet from above count at) where
+    {sheet : Text} {from : Place} {first : Line} {above : List R} {count : ℕ} {at : Place} (g : Going kind sheet from first above count at) where
   module _ (on : goes_on sheet at (ended_length sheet) letter ≡ true) where
     -- The line that the section takes
     begun : begins kind.letter (fields_at sheet at) ≡ true
@@ -173,31 +174,31 @@ module _ {R : Type 0} (kind : RowKind R) (letter : Byte) (its_letter : kind.lett
         (l.read ∙ ap (λ (fs : Fields). fs ∷ lines (drop (line_at sheet at).next sheet)) (sym first), l.further, l.most)
 
     -- What it is judged to be is what the section does
-    refusing : (number : ℕ) → row kind above count (fields_at sheet at) ≡ refused number count → whole kind sheet from ≡ refused number count
+    refusing : (number : ℕ) → row kind above (first + count) (fields_at sheet at) ≡ refused number (first + count) → whole kind sheet from first ≡ refused number (first + count)
     unfolding rows_from
-    refusing number e = g.so_far ∙ ap (rows_from kind above count) taken_line_lem.0 ∙ rw (begun, e, rows_from)
+    refusing number e = g.so_far ∙ ap (rows_from kind above (first + count)) taken_line_lem.0 ∙ rw (begun, e, rows_from)
 
     -- A line that is refused by itself refuses the section
-    going_refused : (number line : ℕ) → shaped kind (fields_at sheet at) ≡ refused number line → whole kind sheet from ≡ refused number count
-    going_refused number line e = refusing number (row_refused kind above count (fields_at sheet at) number line begun e)
+    going_refused : (number line : ℕ) → shaped kind (fields_at sheet at) ≡ refused number line → whole kind sheet from first ≡ refused number (first + count)
+    going_refused number line e = refusing number (row_refused kind above (first + count) (fields_at sheet at) number line begun e)
 
     -- A row that breaks a rule on other rows does
     pub going_broken : (r : R) → shaped kind (fields_at sheet at) ≡ accepted r → (number : Number) → broken (kind.others above r) ≡ some number
-        → whole kind sheet from ≡ refused number count
-    going_broken r e number first =
-        refusing number (row_judged kind above count (fields_at sheet at) r begun e ∙ one_broken count r (kind.others above r) number first)
+        → whole kind sheet from first ≡ refused number (first + count)
+    going_broken r e number breaks =
+        refusing number (row_judged kind above (first + count) (fields_at sheet at) r begun e ∙ one_broken (first + count) r (kind.others above r) number breaks)
 
     -- One that breaks none is a row more
     pub going_on : (r : R) → shaped kind (fields_at sheet at) ≡ accepted r → broken (kind.others above r) ≡ none
-        → Going kind sheet from (r ∷ above) (count + 1) (line_at sheet at).next
+        → Going kind sheet from first (r ∷ above) (count + 1) (line_at sheet at).next
     unfolding rows_from
     going_on r e unbroken =
         let (split, further, inside) = taken_line_lem in
-        let is = row_judged kind above count (fields_at sheet at) r begun e in
+        let is = row_judged kind above (first + count) (fields_at sheet at) r begun e in
         let own = own_holds kind (fields_at sheet at) r e in
         let others = none_broken (kind.others above r) unbroken in
         record {
-          so_far = g.so_far ∙ ap (rows_from kind above count) split ∙ rw (begun, is ∙ judged_holds count r (kind.others above r) others, rows_from, add-one);
+          so_far = g.so_far ∙ ap (rows_from kind above (first + count)) split ∙ rw (begun, is ∙ judged_holds (first + count) r (kind.others above r) others, rows_from, add-one, add-suc);
           counted = omega (arith, g.counted);
           placed =
               ap (λ (p : Place). (line_at sheet p).next) g.placed ∙ next_more sheet from count
@@ -212,17 +213,17 @@ module _ {R : Type 0} (kind : RowKind R) (letter : Byte) (its_letter : kind.lett
 
   -- Where the section does not go on, it has its rows
   pub going_ended : goes_on sheet at (ended_length sheet) letter ≡ false
-      → whole kind sheet from ≡ accepted (reverse above, (count, lines (drop at sheet)))
+      → whole kind sheet from first ≡ accepted (reverse above, (first + count, lines (drop at sheet)))
   unfolding rows_from
   going_ended off = go (ltb at (ended_length sheet)) refl
     where
-      from_lines : (fss : List Fields) → lines (drop at sheet) ≡ fss → rows_from kind above count fss ≡ accepted (reverse above, (count, fss))
-          → whole kind sheet from ≡ accepted (reverse above, (count, lines (drop at sheet)))
+      from_lines : (fss : List Fields) → lines (drop at sheet) ≡ fss → rows_from kind above (first + count) fss ≡ accepted (reverse above, (first + count, fss))
+          → whole kind sheet from first ≡ accepted (reverse above, (first + count, lines (drop at sheet)))
       from_lines fss split stopped =
-          g.so_far ∙ ap (rows_from kind above count) split ∙ stopped
-          ∙ ap (λ (l : List Fields). accepted (reverse above, (count, l))) (sym split)
+          g.so_far ∙ ap (rows_from kind above (first + count)) split ∙ stopped
+          ∙ ap (λ (l : List Fields). accepted (reverse above, (first + count, l))) (sym split)
 
-      go : (t : Bool) → ltb at (ended_length sheet) ≡ t → whole kind sheet from ≡ accepted (reverse above, (count, lines (drop at sheet)))
+      go : (t : Bool) → ltb at (ended_length sheet) ≡ t → whole kind sheet from first ≡ accepted (reverse above, (first + count, lines (drop at sheet)))
       go true t =
           let l = line_there sheet at (ltb-true at (ended_length sheet) t) in
           let first : fields_at sheet at ≡ l.fields = ap (λ (fss : List Fields). get_or fss 0 []) l.read in
@@ -241,14 +242,14 @@ module _ {R : Type 0} (kind : RowKind R) (letter : Byte) (its_letter : kind.lett
 -- ---- a line, as the code reads it
 
 module _ {R H : Type 0} (kind : RowKind R) (letter : Byte) (its_letter : kind.letter ≡ letter ∷ []) (held : R → H)
-    {sheet : Text} {from : Place} {above : List R} {count : ℕ} {at : Place} (g : Going kind sheet from above count at)
+    {sheet : Text} {from : Place} {first : Line} {above : List R} {count : ℕ} {at : Place} (g : Going kind sheet from first above count at)
     (on : goes_on sheet at (ended_length sheet) letter ≡ true) where
   -- What the line is read as
   abbrev pub line : Result (H × Place) Refusal
   line = read_as held (line_at sheet at).next (shaped kind (fields_at sheet at))
 
   -- A refusal refuses the section
-  pub line_refused : (f : Refusal) → line ≡ Err f → (number : Number) × (whole kind sheet from ≡ refused number count) × (refusal number ≡ f)
+  pub line_refused : (f : Refusal) → line ≡ Err f → (number : Number) × (whole kind sheet from first ≡ refused number (first + count)) × (refusal number ≡ f)
   line_refused f e =
       let (number, n, shape, is) = read_refused held (line_at sheet at).next (shaped kind (fields_at sheet at)) f e in
       (number, going_refused kind letter its_letter g on number n shape, is)
@@ -259,8 +260,8 @@ module _ {R H : Type 0} (kind : RowKind R) (letter : Byte) (its_letter : kind.le
     pub row_is : R
     pub held_is : held row_is ≡ h
     pub own : T (hold (kind.own row_is))
-    pub refuses : (number : Number) → broken (kind.others above row_is) ≡ some number → whole kind sheet from ≡ refused number count
-    pub goes : broken (kind.others above row_is) ≡ none → Going kind sheet from (row_is ∷ above) (count + 1) next
+    pub refuses : (number : Number) → broken (kind.others above row_is) ≡ some number → whole kind sheet from first ≡ refused number (first + count)
+    pub goes : broken (kind.others above row_is) ≡ none → Going kind sheet from first (row_is ∷ above) (count + 1) next
     pub further : (at < next) × (next ≤ ended_length sheet)
 
   pub line_row : (h : H) (next : Place) → line ≡ Ok (h, next) → LineRow h next
@@ -278,19 +279,19 @@ module _ {R H : Type 0} (kind : RowKind R) (letter : Byte) (its_letter : kind.le
 
 -- ---- how the section went, as the code says it
 
-module _ {R T : Type 0} (kind : RowKind R) (sheet : Text) (from : Place) (table : List R → T) where
+module _ {R T : Type 0} (kind : RowKind R) (sheet : Text) (from : Place) (first : Line) (table : List R → T) where
   -- What the section answers
   abbrev pub result : Result (T × Place) Refused
-  result = section_as table sheet from (whole kind sheet from)
+  result = section_as table sheet from (whole kind sheet from first)
 
   -- Refused
-  pub result_refused : (number count : ℕ) → whole kind sheet from ≡ refused number count
-      → Err (record { refusal = refusal number; line = count }) ≡ result
-  result_refused number count e = ap (section_as table sheet from) (sym e)
+  pub result_refused : (number at : ℕ) → whole kind sheet from first ≡ refused number at
+      → Err (record { refusal = refusal number; line = at }) ≡ result
+  result_refused number at e = ap (section_as table sheet from) (sym e)
 
   -- Read to its end
-  pub result_ended : {above : List R} {count : ℕ} {at : Place} → Going kind sheet from above count at
-      → whole kind sheet from ≡ accepted (reverse above, (count, lines (drop at sheet)))
+  pub result_ended : {above : List R} {count : ℕ} {at : Place} → Going kind sheet from first above count at
+      → whole kind sheet from first ≡ accepted (reverse above, (first + count, lines (drop at sheet)))
       → (t : T) → t ≡ table (reverse above) → Ok (t, at) ≡ result
   result_ended {above} {count} {at} g e t is =
       let many : count ≡ length (reverse above) = g.counted ∙ sym (length-reverse above) in

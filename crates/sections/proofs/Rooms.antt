@@ -10,7 +10,7 @@ use mathlib.Core.Path.{◌≡◌, refl, sym, ap, ◌∙◌, subst}
 use Rattle.std.proofs.Common.{Option, Some, None, Result, Ok, Err}
 use lib.Dec as dec
 use lib.ListN.{length, set, length-reverse}
-use Rattle.paper.specs.Units.{Byte, Text}
+use Rattle.paper.specs.Units.{Byte, Text, Line}
 use Rattle.paper.specs.Refusals.{RowKind}
 use Rattle.paper.specs.Tables.{hold}
 use Rattle.places.specs.Places.{Place, ended_length, line_at}
@@ -38,31 +38,31 @@ pub record Room (R H K T : Type 0) : Type 0 where
 
 module _ {R H K T : Type 0} (room : Room R H K T) where
   -- What the section answers
-  abbrev pub result : Text → Place → Result (T × Place) Refused
-  result sheet from = loops.result room.kind sheet from room.table
+  abbrev pub result : Text → Place → Line → Result (T × Place) Refused
+  result sheet from first = loops.result room.kind sheet from first room.table
 
   -- What the line at a place is read as
   abbrev pub read_at : Text → Place → Result (H × Place) Refusal
   read_at sheet at = read_as (room.held sheet at) (line_at sheet at).next (shaped room.kind (fields_at sheet at))
 
   -- After so many rows
-  pub record Turn (sheet : Text) (from : Place) (rows : List K) (count : ℕ) (at : Place) : Type 0 where
+  pub record Turn (sheet : Text) (from : Place) (first : Line) (rows : List K) (count : ℕ) (at : Place) : Type 0 where
     pub above : List R
-    pub going : Going room.kind sheet from above count at
+    pub going : Going room.kind sheet from first above count at
     pub table_is : rows ≡ table_of room.most room.free room.kept (reverse above)
 
-  abbrev pub turn_start : (sheet : Text) (from : Place) → from ≤ ended_length sheet
-      → Turn sheet from (table_of room.most room.free room.kept []) 0 from
-  turn_start sheet from h = record { above = []; going = going_start room.kind sheet from h; table_is = refl }
+  abbrev pub turn_start : (sheet : Text) (from : Place) (first : Line) → from ≤ ended_length sheet
+      → Turn sheet from first (table_of room.most room.free room.kept []) 0 from
+  turn_start sheet from first h = record { above = []; going = going_start room.kind sheet from first h; table_is = refl }
 
-  module _ {sheet : Text} {from : Place} {rows : List K} {count : ℕ} {at : Place} (t : Turn sheet from rows count at) where
+  module _ {sheet : Text} {from : Place} {first : Line} {rows : List K} {count : ℕ} {at : Place} (t : Turn sheet from first rows count at) where
     module _ (on : goes_on sheet at (ended_length sheet) room.letter ≡ true) where
       -- A line that is refused by itself refuses the section
-      pub turn_refused : (f : Refusal) → read_at sheet at ≡ Err f → Err (record { refusal = f; line = count }) ≡ result sheet from
+      pub turn_refused : (f : Refusal) → read_at sheet at ≡ Err f → Err (record { refusal = f; line = first + count }) ≡ result sheet from first
       turn_refused f e =
           let (number, stopped, is) = line_refused room.kind room.letter room.its_letter (room.held sheet at) t.going on f e in
-          subst (λ (f : Refusal). Err (record { refusal = f; line = count }) ≡ result sheet from) is
-          (result_refused room.kind sheet from room.table number count stopped)
+          subst (λ (f : Refusal). Err (record { refusal = f; line = first + count }) ≡ result sheet from first) is
+          (result_refused room.kind sheet from first room.table number (first + count) stopped)
 
       -- A row that was read is one of the paper's
       abbrev pub Read : H → Place → Type 0
@@ -74,18 +74,18 @@ module _ {R H K T : Type 0} (room : Room R H K T) where
       -- It is judged by its rules on other rows
       module _ {h : H} {next : Place} (r : Read h next) where
         pub turn_broken : (number : ℕ) → broken (room.kind.others t.above r.row_is) ≡ some number
-            → Err (record { refusal = refusal number; line = count }) ≡ result sheet from
-        turn_broken number first = result_refused room.kind sheet from room.table number count (r.refuses number first)
+            → Err (record { refusal = refusal number; line = first + count }) ≡ result sheet from first
+        turn_broken number breaks = result_refused room.kind sheet from first room.table number (first + count) (r.refuses number breaks)
 
         module _ (clear : broken (room.kind.others t.above r.row_is) ≡ none) where
-          pub turn_going : Going room.kind sheet from (r.row_is ∷ t.above) (count + 1) next
+          pub turn_going : Going room.kind sheet from first (r.row_is ∷ t.above) (count + 1) next
           turn_going = r.goes clear
 
           -- Where it breaks none, it keeps all with the rows above, and is put into the table
           pub turn_kept : Kept room.kind (r.row_is ∷ t.above)
           turn_kept = turn_going.kept
 
-          abbrev pub turn_more : count < room.most → {k : K} → k ≡ room.kept r.row_is → Turn sheet from (set rows count k) (count + 1) next
+          abbrev pub turn_more : count < room.most → {k : K} → k ≡ room.kept r.row_is → Turn sheet from first (set rows count k) (count + 1) next
           turn_more low e =
               record {
                 above = r.row_is ∷ t.above;
@@ -100,9 +100,9 @@ module _ {R H K T : Type 0} (room : Room R H K T) where
     turn_counted = t.going.counted ∙ sym (length-reverse t.above)
 
     pub turn_ended : goes_on sheet at (ended_length sheet) room.letter ≡ false → {x : T} → x ≡ room.table (reverse t.above)
-        → Ok (x, at) ≡ result sheet from
+        → Ok (x, at) ≡ result sheet from first
     turn_ended off {x} is =
-        result_ended room.kind sheet from room.table t.going (going_ended room.kind room.letter room.its_letter t.going off) x is
+        result_ended room.kind sheet from first room.table t.going (going_ended room.kind room.letter room.its_letter t.going off) x is
 
 -- What a section keeps of the rows above, and how the code judges a row by it: as the paper does, and no more rows than there is room for
 pub record Judge {R H K T : Type 0} (room : Room R H K T) (Z : Type 0) : Type 0 where
@@ -123,32 +123,32 @@ refusal_none (some n) e = cc
 
 module _ {R H K T Z : Type 0} {room : Room R H K T} (judge : Judge room Z) where
   -- After so many rows, with what is kept of them
-  pub record Judging (sheet : Text) (from : Place) (rows : List K) (count : ℕ) (at : Place) (seen : Z) : Type 0 where
-    pub turn : Turn room sheet from rows count at
+  pub record Judging (sheet : Text) (from : Place) (first : Line) (rows : List K) (count : ℕ) (at : Place) (seen : Z) : Type 0 where
+    pub turn : Turn room sheet from first rows count at
     pub seen_is : seen ≡ judge.tell turn.above
 
-  module _ {sheet : Text} {from : Place} {rows : List K} {count : ℕ} {at : Place} {seen : Z} (t : Judging sheet from rows count at seen) where
+  module _ {sheet : Text} {from : Place} {first : Line} {rows : List K} {count : ℕ} {at : Place} {seen : Z} (t : Judging sheet from first rows count at seen) where
     -- A row that was read, and what becomes of it as it is judged
     pub record Taken (h : H) (next : Place) : Type 0 where
       pub row_is : R
       pub held_is : room.held sheet at row_is ≡ h
       pub own : dec.T (hold (room.kind.own row_is))
       pub further : (at < next) × (next ≤ ended_length sheet)
-      pub refuses : (f : Refusal) → judge.judge seen count h ≡ Some f → Err (record { refusal = f; line = count }) ≡ result room sheet from
+      pub refuses : (f : Refusal) → judge.judge seen count h ≡ Some f → Err (record { refusal = f; line = first + count }) ≡ result room sheet from first
       pub free : judge.judge seen count h ≡ None → count < room.most
       pub more : judge.judge seen count h ≡ None → (k : K) → k ≡ room.kept row_is
-          → (z : Z) → z ≡ judge.tell (row_is ∷ t.turn.above) → Judging sheet from (set rows count k) (count + 1) next z
+          → (z : Z) → z ≡ judge.tell (row_is ∷ t.turn.above) → Judging sheet from first (set rows count k) (count + 1) next z
 
     -- By what the loop's test says
     module _ {end : Place} (ends : end ≡ ended_length sheet) {on : Bool} (goes : on ≡ goes_on sheet at end room.letter) where
       tested : goes_on sheet at (ended_length sheet) room.letter ≡ on
       tested = ap (λ (n : Place). goes_on sheet at n room.letter) (sym ends) ∙ sym goes
 
-      pub judging_ended : on ≡ false → {x : T} → x ≡ room.table (reverse t.turn.above) → Ok (x, at) ≡ result room sheet from
+      pub judging_ended : on ≡ false → {x : T} → x ≡ room.table (reverse t.turn.above) → Ok (x, at) ≡ result room sheet from first
       judging_ended off = turn_ended room t.turn (tested ∙ off)
 
       module _ (yes : on ≡ true) {read : Result (H × Place) Refusal} (is : read ≡ read_at room sheet at) where
-        pub judging_refused : {f : Refusal} → read ≡ Err f → Err (record { refusal = f; line = count }) ≡ result room sheet from
+        pub judging_refused : {f : Refusal} → read ≡ Err f → Err (record { refusal = f; line = first + count }) ≡ result room sheet from first
         judging_refused {f} e = turn_refused room t.turn (tested ∙ yes) f (sym is ∙ e)
 
         pub judging_row : {h : H} {next : Place} → read ≡ Ok (h, next) → Taken h next
@@ -167,9 +167,9 @@ module _ {R H K T Z : Type 0} {room : Room R H K T} (judge : Judge room Z) where
               own = r.own;
               further = r.further;
               refuses = λ f j.
-                  let (number, first, is) = refusal_some _ f (sym same ∙ j) in
-                  subst (λ (f : Refusal). Err (record { refusal = f; line = count }) ≡ result room sheet from) is
-                  (turn_broken room t.turn (tested ∙ yes) r number first);
+                  let (number, breaks, is) = refusal_some _ f (sym same ∙ j) in
+                  subst (λ (f : Refusal). Err (record { refusal = f; line = first + count }) ≡ result room sheet from first) is
+                  (turn_broken room t.turn (tested ∙ yes) r number breaks);
               free = room_for;
               more = λ n k keeps z tells.
                   record { turn = turn_more room t.turn (tested ∙ yes) r (clear n) (room_for n) keeps; seen_is = tells };

@@ -1,88 +1,30 @@
 -- One section after another, by the places where they start: where a section is refused, and where the next goes on from it. Said
 -- once, over the row kind.
-use Prim.Native.Nat.{ℕ, suc, ◌+◌, ◌≤◌, ◌<◌}
-use native.Mathlib.Nat.{add-suc, add-zero, eq-or-lt_of_le}
-use native.Mathlib.Omega.{arith}
-use mathlib.Core.Bool.{Bool, true, false, ◌&&◌}
-use mathlib.Core.List.{List, [], ◌∷◌, ◌++◌, map, reverse, head-eq_of_cons-eq, tail-eq_of_cons-eq, nil≢cons}
+use Prim.Native.Nat.{ℕ, ◌+◌, ◌≤◌, ◌<◌}
+use native.Mathlib.Nat.{eq-or-lt_of_le}
+use mathlib.Core.Bool.{true}
+use mathlib.Core.List.{List, [], ◌∷◌, ◌++◌, map, head-eq_of_cons-eq, tail-eq_of_cons-eq, nil≢cons}
 use mathlib.Core.Logic.{⊎_elim}
-use mathlib.Core.Option.{Option, none, some}
 use mathlib.Core.Path.{◌≡◌, refl, sym, ap, ap₂, ◌∙◌, subst}
 use lib.Dec as dec
 use lib.Dec.{eqb}
 use Rattle.std.proofs.Common.{Result, Ok, Err}
-use lib.ListN.{length, drop, length-drop}
+use lib.ListN.{length, drop}
 use Rattle.paper.specs.Units.{Text, Fields, Line, Number}
 use Rattle.paper.specs.Text.{lines}
-use Rattle.paper.specs.Refusals.{Outcome, refused, accepted, ◌>>=◌, Rule, judged, RowKind, rules_of}
-use Rattle.paper.specs.Sheet.{Rest, begins, row, rows_from, section}
+use Rattle.paper.specs.Refusals.{Outcome, refused, accepted, ◌>>=◌, RowKind, rules_of}
+use Rattle.paper.specs.Sheet.{Rest, section}
 use Rattle.paper.specs.Tables.{hold_down}
 use Rattle.paper.proofs.Lists.{never}
-use Rattle.paper.proofs.Lines.{filled, lines_fewer}
-use Rattle.paper.proofs.Outcomes.{Sound, numbered}
-use Rattle.paper.proofs.Sections.{Inverse, section_written, rows_sound}
+use Rattle.paper.proofs.Lines.{filled}
+use Rattle.paper.proofs.Outcomes.{numbered}
+use Rattle.paper.proofs.Sections.{Inverse, section_written}
 use Rattle.places.specs.Places.{Place, ended_length, line_at}
 use Rattle.places.proofs.Places.{line_there, no_line, unended_line, ended_most}
 use Rattle.answers.specs.Refusals.{refusal}
 use Rattle.answers.specs.declared.Refused.{Refused}
 use Rattle.sections.specs.Sections.{next_after, section_as, rows_in}
 use Rattle.sections.proofs.Loops.{whole}
-
--- ---- lines counted from another one
-
--- A refusal so many lines further down
-abbrev further : {A : Type 0} → Line → Outcome A → Outcome A
-further lines (refused number line) = refused number (lines + line)
-further lines (accepted a) = accepted a
-
--- What was read, with the lines behind it so many further down
-abbrev further_rest : {A : Type 0} → Line → Outcome (A × Rest) → Outcome (A × Rest)
-further_rest lines (refused number line) = refused number (lines + line)
-further_rest lines (accepted read) = accepted (read.0, (lines + read.1.0, read.1.1))
-
-judged_further : {R : Type 0} (lines at : Line) (r : R) (rules : List Rule) → judged (lines + at) r rules ≡ further lines (judged at r rules)
-judged_further lines at r [] = refl
-judged_further lines at r ((number, true) ∷ rules) = judged_further lines at r rules
-judged_further lines at r ((number, false) ∷ rules) = refl
-
-module _ {R : Type 0} (kind : RowKind R) where
-  row_further : (above : List R) (lines at : Line) (fs : Fields) → row kind above (lines + at) fs ≡ further lines (row kind above at fs)
-  row_further above lines at fs = go (begins kind.letter fs && eqb (length fs) kind.many) (kind.read fs)
-    where
-      formed : Line → Bool → Option R → Outcome R
-      formed at form o = elim form [ false ↦ refused 5 at | true ↦ elim o [ none ↦ refused 6 at | some r ↦ judged at r (rules_of kind above r) ] ]
-
-      go : (form : Bool) (o : Option R) → formed (lines + at) form o ≡ further lines (formed at form o)
-      go false o = refl
-      go true none = refl
-      go true (some r) = judged_further lines at r (rules_of kind above r)
-
-  rows_further : (lines : Line) (above : List R) (at : Line) (fss : List Fields)
-      → rows_from kind above (lines + at) fss ≡ further_rest lines (rows_from kind above at fss)
-  unfolding rows_from
-  rows_further lines above at [] = refl
-  rows_further lines above at (fs ∷ more) =
-      go (begins kind.letter fs) (row kind above at fs) (row kind above (lines + at) fs) (row_further above lines at fs)
-      (λ r. rows_further lines (r ∷ above) (suc at) more)
-    where
-      run : Line → Bool → Outcome R → Outcome (List R × Rest)
-      run at b o =
-          elim b [
-            | false ↦ accepted (reverse above, (at, fs ∷ more))
-            | true ↦ elim o [ refused number line ↦ refused number line | accepted r ↦ rows_from kind (r ∷ above) (suc at) more ]
-          ]
-
-      go : (b : Bool) (o q : Outcome R) → q ≡ further lines o
-          → ((r : R) → rows_from kind (r ∷ above) (lines + suc at) more ≡ further_rest lines (rows_from kind (r ∷ above) (suc at) more))
-          → run (lines + at) b q ≡ further_rest lines (run at b o)
-      go false o q e rest = refl
-      go true (refused number line) q e rest = ap (run (lines + at) true) e
-      go true (accepted r) q e rest =
-          ap (run (lines + at) true) e ∙ ap (λ (n : Line). rows_from kind (r ∷ above) n more) (sym (add-suc lines at)) ∙ rest r
-
-  -- A section is the same wherever its lines are counted from
-  section_further : (lines : Line) (fss : List Fields) → section kind (lines, fss) ≡ further_rest lines (section kind (0, fss))
-  section_further lines fss = ap (λ (n : Line). rows_from kind [] n fss) (sym (add-zero lines)) ∙ rows_further lines [] 0 fss
 
 -- ---- behind the rows
 
@@ -119,19 +61,17 @@ pub record Staged {R : Type 0} (kind : RowKind R) : Type 0 where
 -- A reading that goes on with a section, its lines counted from a line, and then with what is behind it
 module _ {R B T : Type 0} (kind : RowKind R) (staged : Staged kind) (table : List R → T) (sheet : Text) (from : Place) (h : from ≤ ended_length sheet)
     (at : Line) (next : List R × Rest → Outcome B) (reading : Outcome B) (so_far : reading ≡ (section kind (at, lines (drop from sheet)) >>= next)) where
-  -- It is refused where the section is, so many lines further down
+  -- It is refused where the section is
   pub record Exit (f : Refused) : Type 0 where
     pub number : Number
     pub is : refusal number ≡ f.refusal
-    pub low : 1 ≤ number
-    pub few : f.line ≤ length sheet
-    pub stops : reading ≡ refused number (at + f.line)
+    pub stops : reading ≡ refused number f.line
 
   -- or goes on behind the section's rows, which keep the rules
   pub record Open (t : T) (behind : Place) : Type 0 where
     pub rows : List R
     pub is : t ≡ table rows
-    pub read : rows ≡ rows_in (whole kind sheet from)
+    pub read : rows ≡ rows_in (whole kind sheet from at)
     pub down : dec.T (hold_down kind [] rows)
     pub within : behind ≤ ended_length sheet
     pub goes : reading ≡ next (rows, (at + length rows, lines (drop behind sheet)))
@@ -140,31 +80,16 @@ module _ {R B T : Type 0} (kind : RowKind R) (staged : Staged kind) (table : Lis
     stopped : {f : Refused} → Exit f → Stage (Err f)
     went : {t : T} {behind : Place} → Open t behind → Stage (Ok (t, behind))
 
-  stage : Stage (section_as table sheet from (whole kind sheet from))
-  stage = go (whole kind sheet from) refl
+  stage : Stage (section_as table sheet from (whole kind sheet from at))
+  stage = go (whole kind sheet from at) refl
     where
-      counted : (o : Outcome (List R × Rest)) → whole kind sheet from ≡ o → reading ≡ (further_rest at o >>= next)
-      counted o e =
-          so_far
-          ∙ ap (λ (o : Outcome (List R × Rest)). o >>= next) (section_further kind at (lines (drop from sheet)) ∙ ap (further_rest at) e)
-
-      go : (o : Outcome (List R × Rest)) → whole kind sheet from ≡ o → Stage (section_as table sheet from o)
-      go (refused number line) e =
-          let fss = lines (drop from sheet) in
-          let sound = subst (Sound (length fss)) e (rows_sound kind staged.numbers (length fss) [] 0 fss (omega arith)) in
-          stopped
-          (record {
-            number = number;
-            is = refl;
-            low = sound.0;
-            few = omega (arith, sound.2, lines_fewer (drop from sheet), length-drop from sheet);
-            stops = counted (refused number line) e;
-          })
+      go : (o : Outcome (List R × Rest)) → whole kind sheet from at ≡ o → Stage (section_as table sheet from o)
+      go (refused number line) e = stopped (record { number = number; is = refl; stops = so_far ∙ ap (λ (o : Outcome (List R × Rest)). o >>= next) e })
       go (accepted (rs, rest)) e =
-          let (down, split, line) = section_written kind staged.inverse (0, lines (drop from sheet)) rs rest e in
+          let (down, split, line) = section_written kind staged.inverse (at, lines (drop from sheet)) rs rest e in
           let (behind, within) = after_rows sheet kind.write staged.some_field from rs rest.1 h split in
-          let rest_is : rest ≡ (length rs, lines (drop (next_after sheet from (length rs)) sheet)) =
-          ap₂ (λ (n : Line) (fss : List Fields). (n, fss)) (line ∙ omega arith) (sym behind)
+          let rest_is : rest ≡ (at + length rs, lines (drop (next_after sheet from (length rs)) sheet)) =
+          ap₂ (λ (n : Line) (fss : List Fields). (n, fss)) line (sym behind)
           in
           went
           (record {
@@ -173,10 +98,10 @@ module _ {R B T : Type 0} (kind : RowKind R) (staged : Staged kind) (table : Lis
             read = ap rows_in (sym e);
             down = down;
             within = within;
-            goes = counted (accepted (rs, rest)) e ∙ ap (λ (r : Rest). next (rs, (at + r.0, r.1))) rest_is;
+            goes = so_far ∙ ap (λ (o : Outcome (List R × Rest)). o >>= next) e ∙ ap (λ (r : Rest). next (rs, r)) rest_is;
           })
 
-  module _ (x : Result (T × Place) Refused) (is : x ≡ section_as table sheet from (whole kind sheet from)) where
+  module _ (x : Result (T × Place) Refused) (is : x ≡ section_as table sheet from (whole kind sheet from at)) where
     pub exits : (f : Refused) → x ≡ Err f → Exit f
     exits f e = go _ stage (sym is ∙ e)
       where
@@ -202,7 +127,7 @@ pub record Standing {R B : Type 0} (kind : RowKind R) (next : List R × Rest →
 
 module _ {R B T : Type 0} {kind : RowKind R} {sheet : Text} {from : Place} {at : Line} {next : List R × Rest → Outcome B} {reading : Outcome B}
     (s : Standing kind next sheet from at reading) (staged : Staged kind) (table : List R → T)
-    (x : Result (T × Place) Refused) (is : x ≡ section_as table sheet from (whole kind sheet from)) where
+    (x : Result (T × Place) Refused) (is : x ≡ section_as table sheet from (whole kind sheet from at)) where
   pub stopped_there : (f : Refused) → x ≡ Err f → Exit kind staged table sheet from s.within at next reading s.goes f
   stopped_there = exits kind staged table sheet from s.within at next reading s.goes x is
 
