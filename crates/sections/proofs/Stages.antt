@@ -68,22 +68,20 @@ module _ {R B T : Type 0} (kind : RowKind R) (staged : Staged kind) (table : Lis
     pub stops : reading ≡ refused number f.line
 
   -- or goes on behind the section's rows, which keep the rules
-  pub record Open (t : T) (behind : Place) : Type 0 where
-    pub rows : List R
+  pub record Open (rows : List R) (t : T) (behind : Place) : Type 0 where
     pub is : t ≡ table rows
-    pub read : rows ≡ rows_in (whole kind sheet from at)
     pub down : dec.T (hold_down kind [] rows)
     pub within : behind ≤ ended_length sheet
     pub goes : reading ≡ next (rows, (at + length rows, lines (drop behind sheet)))
 
-  data Stage : Result (T × Place) Refused → Type 0 where
-    stopped : {f : Refused} → Exit f → Stage (Err f)
-    went : {t : T} {behind : Place} → Open t behind → Stage (Ok (t, behind))
+  data Stage (o : Outcome (List R × Rest)) : Result (T × Place) Refused → Type 0 where
+    stopped : {f : Refused} → Exit f → Stage o (Err f)
+    went : {t : T} {behind : Place} → Open (rows_in o) t behind → Stage o (Ok (t, behind))
 
-  stage : Stage (section_as table sheet from (whole kind sheet from at))
+  stage : Stage (whole kind sheet from at) (section_as table sheet from (whole kind sheet from at))
   stage = go (whole kind sheet from at) refl
     where
-      go : (o : Outcome (List R × Rest)) → whole kind sheet from at ≡ o → Stage (section_as table sheet from o)
+      go : (o : Outcome (List R × Rest)) → whole kind sheet from at ≡ o → Stage o (section_as table sheet from o)
       go (refused number line) e = stopped (record { number = number; is = refl; stops = so_far ∙ ap (λ (o : Outcome (List R × Rest)). o >>= next) e })
       go (accepted (rs, rest)) e =
           let (down, split, line) = section_written kind staged.inverse (at, lines (drop from sheet)) rs rest e in
@@ -93,9 +91,7 @@ module _ {R B T : Type 0} (kind : RowKind R) (staged : Staged kind) (table : Lis
           in
           went
           (record {
-            rows = rs;
             is = refl;
-            read = ap rows_in (sym e);
             down = down;
             within = within;
             goes = so_far ∙ ap (λ (o : Outcome (List R × Rest)). o >>= next) e ∙ ap (λ (r : Rest). next (rs, r)) rest_is;
@@ -105,18 +101,18 @@ module _ {R B T : Type 0} (kind : RowKind R) (staged : Staged kind) (table : Lis
     pub exits : (f : Refused) → x ≡ Err f → Exit f
     exits f e = go _ stage (sym is ∙ e)
       where
-        go : (y : Result (T × Place) Refused) → Stage y → y ≡ Err f → Exit f
+        go : (y : Result (T × Place) Refused) → Stage (whole kind sheet from at) y → y ≡ Err f → Exit f
         go (Err g) (stopped s) e = let one : g ≡ f = cc in subst Exit one s
         go (Ok read) (went s) e = cc
 
-    pub opens : (t : T) (behind : Place) → x ≡ Ok (t, behind) → Open t behind
+    pub opens : (t : T) (behind : Place) → x ≡ Ok (t, behind) → Open (rows_in (whole kind sheet from at)) t behind
     opens t behind e = go _ stage (sym is ∙ e)
       where
-        go : (y : Result (T × Place) Refused) → Stage y → y ≡ Ok (t, behind) → Open t behind
+        go : (y : Result (T × Place) Refused) → Stage (whole kind sheet from at) y → y ≡ Ok (t, behind) → Open (rows_in (whole kind sheet from at)) t behind
         go (Err g) (stopped s) e = cc
         go (Ok (u, after)) (went s) e =
             let one : (u, after) ≡ (t, behind) = cc in
-            subst (λ (p : T × Place). Open p.0 p.1) one s
+            subst (λ (p : T × Place). Open (rows_in (whole kind sheet from at)) p.0 p.1) one s
 
 -- ---- one section after the other
 
@@ -131,5 +127,5 @@ module _ {R B T : Type 0} {kind : RowKind R} {sheet : Text} {from : Place} {at :
   pub stopped_there : (f : Refused) → x ≡ Err f → Exit kind staged table sheet from s.within at next reading s.goes f
   stopped_there = exits kind staged table sheet from s.within at next reading s.goes x is
 
-  pub opened : (t : T) (behind : Place) → x ≡ Ok (t, behind) → Open kind staged table sheet from s.within at next reading s.goes t behind
+  pub opened : (t : T) (behind : Place) → x ≡ Ok (t, behind) → Open kind staged table sheet from s.within at next reading s.goes (rows_in (whole kind sheet from at)) t behind
   opened = opens kind staged table sheet from s.within at next reading s.goes x is
