@@ -2,39 +2,71 @@
 // the text at the buffer's start; refused, 65,536 × refusal + line, the buffer as it was.
 #![tactic(auto)]
 
-ghost use Rattle.std.specs.Prelude.{◌≡◌};
+ghost use Rattle.std.specs.Prelude.{◌≡◌, ◌≤◌, IfErr};
 ghost use Rattle.paper.specs.Report.{full, quiet};
 ghost use Rattle.paper.specs.Answer.{kit, explainer};
+ghost use Rattle.kit.specs.Given.{given};
 
-// The report of a sheet, full or quiet.
+use answers::{Refusal, Refused};
+use lines::Place;
+
+// The one number of an answer.
+fn number(answer: Result<Place, Refused>) -> u64
+    requires { IfErr answer (λ f. f.line ≤ 65_535) }
+    ensures { result ≡ given answer }
+{
+    match answer {
+        Ok(length) => length as u64,
+        Err(refused) => 65536 * refused.refusal.number() + refused.line,
+    }
+}
+
+// The report of a sheet, full or quiet; gives its length.
 fn report_on(
     sheet: &[u8],
     report: &mut [u8],
     all: bool, // the K lines, or those that are not of zeros
-) -> u64
-    ensures { (result, report.new) ≡ kit all sheet.now report.old }
+) -> Result<Place, Refused>
+    ensures answer { (given result, report.new) ≡ kit all sheet.now report.old }
+    ensures small { IfErr result (λ f. f.line ≤ 65_535) }
 {
-    let read = sheet::read_sheet(sheet, report.len());
-    if read.refusal != 0 {
-        return 65536 * read.refusal + read.line;
-    }
-    let tables = read.tables;
-    let figures = margin::figures_of(tables);
-    report::write(report, all, tables, figures) as u64
+    let tables = sheet::read_sheet(sheet, report.len())?;
+    let figures = margin::figures_of(&tables);
+    Ok(report::write(report, all, &tables, &figures))
+}
+
+// Why the margin of a class in a currency is what it is; gives the explanation's length.
+fn explain(
+    sheet: &[u8],
+    currency: &[u8],
+    class: u64, // any number
+    report: &mut [u8],
+) -> Result<Place, Refused>
+    ensures answer { (given result, report.new) ≡ explainer currency.now class sheet.now report.old }
+    ensures small { IfErr result (λ f. f.line ≤ 65_535) }
+{
+    let tables = sheet::read_sheet(sheet, report.len())?;
+    let Some(rank) = reasons::asked(&tables, currency, class) else {
+        return Err(Refused {
+            refusal: Refusal::Question,
+            line: 0,
+        });
+    };
+    Ok(reasons::write(report, &tables, rank, class as usize))
 }
 
 // The quiet report of a sheet: no K line has long, short and margin all zero.
 pub fn brm_margin(sheet: &[u8], report: &mut [u8]) -> u64
     ensures { (result, report.new) ≡ kit quiet sheet.now report.old }
 {
-    report_on(sheet, report, false)
+    number(report_on(sheet, report, false))
 }
 
 // The full report of a sheet: in each currency a K line for every class.
 pub fn brm_margin_full(sheet: &[u8], report: &mut [u8]) -> u64
     ensures { (result, report.new) ≡ kit full sheet.now report.old }
 {
-    report_on(sheet, report, true)
+    number(report_on(sheet, report, true))
 }
 
 // Why the margin of a class in a currency is what it is.
@@ -46,14 +78,5 @@ pub fn brm_explain(
 ) -> u64
     ensures { (result, report.new) ≡ explainer currency.now class sheet.now report.old }
 {
-    let known = sheet::read_sheet(sheet, report.len());
-    if known.refusal != 0 {
-        return 65536 * known.refusal + known.line;
-    }
-    let tables = known.tables;
-    let asked = reasons::asked(tables, currency, class);
-    if !asked.there {
-        return 851968; // refused 13, line 0
-    }
-    reasons::write(report, tables, asked.rank, class as usize) as u64
+    number(explain(sheet, currency, class, report))
 }

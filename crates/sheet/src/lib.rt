@@ -2,120 +2,92 @@
 #![tactic(auto)]
 
 ghost use Rattle.std.specs.Prelude.{◌≡◌, ◌≤◌, ◌<◌, length, drop};
-ghost use Rattle.paper.specs.Days.{new_years, day};
+ghost use Rattle.paper.specs.Days.{day};
 ghost use Rattle.paper.specs.Units.{Date};
-ghost use Rattle.paper.specs.Refusals.{refused};
 ghost use Rattle.paper.specs.Answer.{tables_of};
 ghost use Rattle.paper.specs.Text.{lines};
 ghost use Rattle.paper.specs.Sheet.{read_tables, read_sheet};
 ghost use Rattle.places.specs.Places.{ended_length};
 ghost use Rattle.sheet.specs.Whole.{held_sheet};
 
+use answers::{Refusal, Refused};
 use days::Day;
-use head::DateRead;
 use places::Place;
-use sections::Number;
 use tables::Tables;
 
-pub type LineNumber = u64; // from 1
-
-// What a sheet holds, or its refusal, and then empty tables.
-#[derive(Drop)]
-pub struct Sheet {
-    pub refusal: Number, // 0 where none
-    pub line: LineNumber, // of the refusal, 0 where none
-    pub tables: Tables,
-}
-
-// A sheet that is refused.
-fn refused(number: Number, line: LineNumber) -> Sheet
-    ensures { result ≡ held_sheet (refused number line) }
-{
-    Sheet {
-        refusal: number,
-        line: line,
-        tables: tables::no_tables(),
-    }
-}
-
 // The sections behind the D row, from a place on line 3; `today` is the day of calculation.
-fn tables_from(s: &[u8], years: &[Day; 400], from: Place, end: Place, today: Day) -> Sheet
-    requires { (length s.now ≤ 65_536) × (from ≤ end) × (end ≡ ended_length s.now) × (years.now ≡ new_years) × (today < 146_097) }
+fn tables_from(s: &[u8], from: Place, end: Place, today: Day) -> Result<Tables, Refused>
+    requires { (length s.now ≤ 65_536) × (from ≤ end) × (end ≡ ended_length s.now) × (today < 146_097) }
     ensures { (date : Date) → today ≡ day date → result ≡ held_sheet (read_tables date (3, lines (drop from s.now))) }
 {
-    let cs = classes::class_section(s, from, end);
-    let c = cs.section;
-    let first = 3 + c.count as u64; // line of the O rows
-    if c.refusal != 0 {
-        return refused(c.refusal, first);
+    let (classes, behind_classes) = classes::class_section(s, from, end, 3)?;
+    let first = 3 + classes.count as u32; // line of the O rows
+    let (priorities, behind_priorities) =
+        priorities::priority_section(s, behind_classes, end, &classes, first)?;
+    let second = first + priorities.count as u32; // line of the S rows
+    let (securities, behind_securities) =
+        securities::security_section(s, behind_priorities, end, &classes, second)?;
+    let third = second + securities.count as u32; // line of the T rows
+    let working = days::working_after(today);
+    let (trades, behind) = trades::trade_section(
+        s,
+        behind_securities,
+        end,
+        today,
+        working,
+        &securities,
+        third,
+    )?;
+    if behind != s.len() {
+        return Err(Refused {
+            refusal: Refusal::Row,
+            line: third as u64 + trades.count as u64,
+        });
     }
-    let known = cs.table;
-    let os = priorities::priority_section(s, c.next, end, known);
-    let o = os.section;
-    let second = first + o.count as u64; // line of the S rows
-    if o.refusal != 0 {
-        return refused(o.refusal, second);
-    }
-    let ss = securities::security_section(s, years, o.next, end, known);
-    let b = ss.section;
-    let third = second + b.count as u64; // line of the T rows
-    if b.refusal != 0 {
-        return refused(b.refusal, third);
-    }
-    let bonds = ss.table;
-    let working = days::working_after(years, today);
-    let ts = trades::trade_section(s, years, b.next, end, today, working, bonds);
-    let t = ts.section;
-    let behind = third + t.count as u64; // line
-    if t.refusal != 0 {
-        return refused(t.refusal, behind);
-    }
-    if t.next != s.len() {
-        return refused(5, behind);
-    }
-    let priorities = os.table;
-    let trades = ts.table;
-    Sheet {
-        refusal: 0,
-        line: 0,
-        tables: Tables {
-            classes: known,
-            priorities: priorities,
-            securities: bonds,
-            trades: trades,
-        },
-    }
+    Ok(Tables {
+        classes,
+        priorities,
+        securities,
+        trades,
+    })
 }
 
 // A sheet of at most 65,536 bytes to its tables, or to the refusal of a line.
-fn read_lines(s: &[u8]) -> Sheet
+fn read_lines(s: &[u8]) -> Result<Tables, Refused>
     requires { length s.now ≤ 65_536 }
     ensures { result ≡ held_sheet (read_sheet s.now) }
 {
-    let header = head::header_number(s);
-    if header != 0 {
-        return refused(header, 1);
+    if let Err(refusal) = head::header(s) {
+        return Err(Refused { refusal, line: 1 });
     }
-    let years = days::new_years();
-    let read = head::date_row(s, &years);
-    let DateRead::Row(today, next) = read else {
-        return refused(head::date_number(read), 2);
+    let read = head::date_row(s);
+    let Ok((today, next)) = read else {
+        return Err(Refused {
+            refusal: read.unwrap_err(),
+            line: 2,
+        });
     };
-    tables_from(s, &years, next, places::ended(s), today)
+    tables_from(s, next, places::ended(s), today)
 }
 
-// A sheet to its tables, or to its refusal and line: 1 by the room of the report buffer, 2 by its size, then by its lines.
+// A sheet to its tables, or to its refusal and line: first by the room of the report buffer, then by its size, then by its lines.
 pub fn read_sheet(
     s: &[u8],
     room: usize, // bytes
-) -> Sheet
+) -> Result<Tables, Refused>
     ensures { result ≡ held_sheet (tables_of room s.now) }
 {
     if room < 32768 {
-        return refused(1, 0);
+        return Err(Refused {
+            refusal: Refusal::Room,
+            line: 0,
+        });
     }
     if 65536 < s.len() {
-        return refused(2, 0);
+        return Err(Refused {
+            refusal: Refusal::Length,
+            line: 0,
+        });
     }
     read_lines(s)
 }

@@ -11,7 +11,10 @@ use Rattle.paper.specs.Answer.{Answer, tables_of, kit}
 use Rattle.paper.proofs.Lengths.{report_fits}
 use Rattle.paper.proofs.Demands.{gives_answer}
 use Rattle.sheet.specs.Whole.{held_sheet}
-use Rattle.sheet.specs.declared.Sheet.{Sheet}
+use Rattle.answers.specs.Refusals.{number_of}
+use Rattle.answers.specs.declared.Refused.{Refused}
+use Rattle.std.proofs.Common.{Result, Ok, Err}
+use Rattle.kit.specs.Given.{given}
 use Rattle.tables.specs.Held.{held_tables}
 use Rattle.tables.specs.declared.Tables.{Tables}
 use Rattle.margin.specs.Figures.{TablesRanged, figures_of}
@@ -21,67 +24,47 @@ use Rattle.margin.proofs.Paper.{figures_held, tables_ranged}
 use Rattle.lines.specs.Written.{Place, Wrote}
 use Rattle.report.specs.Texts.{Writable, report_text}
 use Rattle.report.proofs.Paper.{text_held, writable_held}
-use Rattle.kit.proofs.Answers.{small, is_refused, Accepted, is_accepted, hands_back}
+use Rattle.kit.proofs.Answers.{Stopped, stopped, Accepted, is_accepted, hands_back}
 use Rattle.kit.proofs.report_on.Goals as goal
 
 -- What was read of a sheet, for a lent buffer and the K lines that are asked for
-module _ (sheet buffer : Text) (listing : Listing) (read : Sheet) (is : read ≡ held_sheet (tables_of (length buffer) sheet)) where
+module _ (sheet buffer : Text) (listing : Listing) {read : Result Tables Refused} (is : read ≡ held_sheet (tables_of (length buffer) sheet)) where
   -- What comes of the tables: their report
   abbrev next : paper.Tables → Answer
   next t = accepted (report_of listing t)
 
-  refuses : (read.refusal ≡ 0 → ⊥) → ◌≡◌ {A = ℕ × Text} (65_536 * read.refusal + read.line, buffer) (kit listing sheet buffer)
-  refuses n = sym (gives_answer listing sheet buffer (refused read.refusal read.line) (is_refused (length buffer) sheet read is n next))
+  refuses : {f : Refused} → read ≡ Err f → ◌≡◌ {A = ℕ × Text} (given (Err f), buffer) (kit listing sheet buffer)
+  refuses {f} k = sym (gives_answer listing sheet buffer (refused (number_of f.refusal) f.line) ((stopped (length buffer) sheet is k).answers next))
 
   -- The sheet is accepted
-  module _ (goes : read.refusal ≡ 0) where
-    accepts : Accepted (length buffer) sheet read is
-    accepts = is_accepted (length buffer) sheet read is goes
+  module _ {tables : Tables} (goes : read ≡ Ok tables) where
+    accepts : Accepted (length buffer) sheet is tables
+    accepts = is_accepted (length buffer) sheet is goes
 
-    ranged : TablesRanged read.tables
+    ranged : TablesRanged tables
     ranged = subst⁻¹ TablesRanged accepts.held (tables_ranged accepts.paper accepts.admitted)
 
-    module _ (figures : Figures) (figures_is : figures ≡ figures_of read.tables) where
+    module _ (figures : Figures) (figures_is : figures ≡ figures_of tables) where
       -- The figures are the paper's
       figures_are : figures ≡ held_figures accepts.paper
       figures_are = figures_is ∙ ap figures_of accepts.held ∙ figures_held accepts.paper accepts.admitted
 
       -- ... and so is the report's text
-      text_is : report_text listing read.tables figures ≡ report_of listing accepts.paper
+      text_is : report_text listing tables figures ≡ report_of listing accepts.paper
       text_is = ap₂ (report_text listing) accepts.held figures_are ∙ text_held accepts.paper accepts.admitted listing
 
       -- It can be written
-      writable : Writable read.tables figures
+      writable : Writable tables figures
       writable =
           subst⁻¹ (λ (t : Tables). Writable t figures) accepts.held
           (subst⁻¹ (Writable (held_tables accepts.paper)) figures_are (writable_held accepts.paper accepts.admitted))
 
-      room : length (report_text listing read.tables figures) ≤ length buffer
+      room : length (report_text listing tables figures) ≤ length buffer
       room = omega (arith, ap length text_is, report_fits listing accepts.paper accepts.admitted, accepts.roomy)
 
-      answers : (written : Place) (after : Text) → Wrote (report_text listing read.tables figures) 0 buffer written after
+      answers : (written : Place) (after : Text) → Wrote (report_text listing tables figures) 0 buffer written after
           → ◌≡◌ {A = ℕ × Text} (written, after) (kit listing sheet buffer)
       answers written after w =
           hands_back (report_of listing accepts.paper) buffer (subst (λ (t : Text). Wrote t 0 buffer written after) text_is w)
           ∙ sym (gives_answer listing sheet buffer (accepted (report_of listing accepts.paper)) (accepts.answers next))
 
-pub overflow_mul-result : goal.overflow_mul-result
-overflow_mul-result c = omega (arith, (small (length c.args.report.now) c.args.sheet.now c.read_sheet-read.result c.read_sheet-read.ensures).0)
-
-pub overflow_add-result : goal.overflow_add-result
-overflow_add-result c = omega (arith, small (length c.args.report.now) c.args.sheet.now c.read_sheet-read.result c.read_sheet-read.ensures)
-
-pub returns-then-read-ne0 : goal.returns-then-read-ne0
-returns-then-read-ne0 c = refuses c.args.sheet.now c.args.report.now c.args.all c.read_sheet-read.result c.read_sheet-read.ensures c.if-read-ne0.true
-
-pub figures_of-figures-requires : goal.figures_of-figures-requires
-figures_of-figures-requires c = ranged c.args.sheet.now c.args.report.now c.args.all c.read_sheet-read.result c.read_sheet-read.ensures c.if-read-ne0.false
-
-pub write-requires-clause-writable : goal.write-requires-clause-writable
-write-requires-clause-writable c = writable c.args.sheet.now c.args.report.now c.args.all c.read_sheet-read.result c.read_sheet-read.ensures c.if-read-ne0.false c.figures_of-figures.result c.figures_of-figures.ensures
-
-pub write-requires-clause-room : goal.write-requires-clause-room
-write-requires-clause-room c = room c.args.sheet.now c.args.report.now c.args.all c.read_sheet-read.result c.read_sheet-read.ensures c.if-read-ne0.false c.figures_of-figures.result c.figures_of-figures.ensures
-
-pub returns : goal.returns
-returns c = answers c.args.sheet.now c.args.report.now c.args.all c.read_sheet-read.result c.read_sheet-read.ensures c.if-read-ne0.false c.figures_of-figures.result c.figures_of-figures.ensures c.write.result c.write.new.report c.write.ensures

@@ -1,4 +1,4 @@
--- `kit::brm_explain` meets its contract: each way out gives the number and the buffer of the paper's explainer.
+-- `kit::explain` meets its contract: each way out gives the number and the buffer of the paper's explainer.
 use Prim.Native.Nat.{ℕ, ◌+◌, ◌*◌, ◌≤◌}
 use native.Mathlib.Omega.{arith}
 use mathlib.Core.Bool.{true, false}
@@ -13,7 +13,10 @@ use Rattle.paper.specs.Answer.{Answer, tables_of, has_both, ask_rules, explainer
 use Rattle.paper.proofs.Lengths.{explanation_fits}
 use Rattle.paper.proofs.Reasons.{explainer_answer}
 use Rattle.sheet.specs.Whole.{held_sheet}
-use Rattle.sheet.specs.declared.Sheet.{Sheet}
+use Rattle.answers.specs.Refusals.{number_of}
+use Rattle.answers.specs.declared.Refused.{Refused}
+use Rattle.std.proofs.Common.{Result, Ok, Err, Option, Some, None}
+use Rattle.kit.specs.Given.{given}
 use Rattle.tables.specs.Held.{held_tables}
 use Rattle.tables.specs.Back.{ranged}
 use Rattle.tables.specs.declared.Tables.{Tables}
@@ -21,32 +24,33 @@ use Rattle.lines.specs.Written.{Place, Wrote}
 use Rattle.reasons.specs.Texts.{asked_of, reason_text, Explainable}
 use Rattle.reasons.specs.declared.Question.{Question}
 use Rattle.reasons.proofs.Paper.{askable, asked_there, asked_stands, explainable_held, text_held}
-use Rattle.kit.proofs.Answers.{small, is_refused, Accepted, is_accepted, hands_back}
-use Rattle.kit.proofs.brm_explain.Goals as goal
+use Rattle.kit.proofs.Answers.{Stopped, stopped, Accepted, is_accepted, hands_back}
+use Rattle.kit.proofs.explain.Goals as goal
 
 -- What was read of a sheet, for a lent buffer and a question
-module _ (sheet buffer currency : Text) (class : Class) (read : Sheet) (is : read ≡ held_sheet (tables_of (length buffer) sheet)) where
+module _ (sheet buffer currency : Text) (class : Class) {read : Result Tables Refused} (is : read ≡ held_sheet (tables_of (length buffer) sheet)) where
   -- What comes of the tables: the explanation, where they have the currency and the class
   abbrev next : paper.Tables → Answer
   next t = judged 0 (explanation_text (explanation_of t currency class)) (ask_rules t currency class)
 
-  refuses : (read.refusal ≡ 0 → ⊥) → ◌≡◌ {A = ℕ × Text} (65_536 * read.refusal + read.line, buffer) (explainer currency class sheet buffer)
-  refuses n = sym (explainer_answer currency class sheet buffer (refused read.refusal read.line) (is_refused (length buffer) sheet read is n next))
+  refuses : {f : Refused} → read ≡ Err f → ◌≡◌ {A = ℕ × Text} (given (Err f), buffer) (explainer currency class sheet buffer)
+  refuses {f} k =
+      sym (explainer_answer currency class sheet buffer (refused (number_of f.refusal) f.line) ((stopped (length buffer) sheet is k).answers next))
 
   -- The sheet is accepted
-  module _ (goes : read.refusal ≡ 0) where
-    accepts : Accepted (length buffer) sheet read is
-    accepts = is_accepted (length buffer) sheet read is goes
+  module _ {known : Tables} (goes : read ≡ Ok known) where
+    accepts : Accepted (length buffer) sheet is known
+    accepts = is_accepted (length buffer) sheet is goes
 
     abbrev tables : paper.Tables
     tables = accepts.paper
 
-    can_ask : (read.tables.securities.currencies.count ≤ 8) × (read.tables.classes.count ≤ 40) × (ranged read.tables.classes ≡ true)
+    can_ask : (known.securities.currencies.count ≤ 8) × (known.classes.count ≤ 40) × (ranged known.classes ≡ true)
     can_ask =
         subst⁻¹ (λ (t : Tables). (t.securities.currencies.count ≤ 8) × (t.classes.count ≤ 40) × (ranged t.classes ≡ true)) accepts.held
         (askable tables accepts.admitted)
 
-    module _ (asked : Question) (asked_is : asked ≡ asked_of read.tables currency class) where
+    module _ (asked : Question) (asked_is : asked ≡ asked_of known currency class) where
       -- What is found is what the paper's tables have
       found_is : asked ≡ asked_of (held_tables tables) currency class
       found_is = asked_is ∙ ap (λ (t : Tables). asked_of t currency class) accepts.held
@@ -66,57 +70,26 @@ module _ (sheet buffer currency : Text) (class : Class) (read : Sheet) (is : rea
         both = sym there_is ∙ there
 
         -- The text is the explanation's
-        text_is : reason_text read.tables asked.rank class ≡ explanation_text (explanation_of tables currency class)
+        text_is : reason_text known asked.rank class ≡ explanation_text (explanation_of tables currency class)
         text_is =
             let rank = (asked_of (held_tables tables) currency class).rank in
             ap₂ (λ (t : Tables) (q : Question). reason_text t q.rank class) accepts.held found_is
             ∙ text_held tables accepts.admitted rank currency (asked_stands tables accepts.admitted currency class both) class
 
         -- It can be written
-        explainable : Explainable read.tables asked.rank class
+        explainable : Explainable known asked.rank class
         explainable =
             subst⁻¹ (λ (t : Tables). Explainable t asked.rank class) accepts.held
             (subst⁻¹ (λ (q : Question). Explainable (held_tables tables) q.rank class) found_is
             (explainable_held tables accepts.admitted currency class both))
 
-        room : length (reason_text read.tables asked.rank class) ≤ length buffer
+        room : length (reason_text known asked.rank class) ≤ length buffer
         room = omega (arith, ap length text_is, explanation_fits tables accepts.admitted currency class, accepts.roomy)
 
-        answers : (written : Place) (after : Text) → Wrote (reason_text read.tables asked.rank class) 0 buffer written after
+        answers : (written : Place) (after : Text) → Wrote (reason_text known asked.rank class) 0 buffer written after
             → ◌≡◌ {A = ℕ × Text} (written, after) (explainer currency class sheet buffer)
         answers written after w =
             let text = explanation_text (explanation_of tables currency class) in
             hands_back text buffer (subst (λ (t : Text). Wrote t 0 buffer written after) text_is w)
             ∙ sym (explainer_answer currency class sheet buffer (accepted text) (accepts.answers next ∙ rw (both, judged)))
 
-pub overflow_mul-result : goal.overflow_mul-result
-overflow_mul-result c = omega (arith, (small (length c.args.report.now) c.args.sheet.now c.read_sheet-known.result c.read_sheet-known.ensures).0)
-
-pub overflow_add-result : goal.overflow_add-result
-overflow_add-result c = omega (arith, small (length c.args.report.now) c.args.sheet.now c.read_sheet-known.result c.read_sheet-known.ensures)
-
-pub returns-then-known-ne0 : goal.returns-then-known-ne0
-returns-then-known-ne0 c = refuses c.args.sheet.now c.args.report.now c.args.currency.now c.args.class c.read_sheet-known.result c.read_sheet-known.ensures c.if-known-ne0.true
-
-pub asked-asked-requires : goal.asked-asked-requires
-asked-asked-requires c = can_ask c.args.sheet.now c.args.report.now c.args.currency.now c.args.class c.read_sheet-known.result c.read_sheet-known.ensures c.if-known-ne0.false
-
-pub returns-then-not-asked : goal.returns-then-not-asked
-returns-then-not-asked c =
-    lacks c.args.sheet.now c.args.report.now c.args.currency.now c.args.class c.read_sheet-known.result c.read_sheet-known.ensures c.if-known-ne0.false
-    c.asked-asked.result c.asked-asked.ensures (not-true _ c.if-not-asked.true)
-
-pub write-requires-clause-explainable : goal.write-requires-clause-explainable
-write-requires-clause-explainable c =
-    explainable c.args.sheet.now c.args.report.now c.args.currency.now c.args.class c.read_sheet-known.result c.read_sheet-known.ensures c.if-known-ne0.false
-    c.asked-asked.result c.asked-asked.ensures (not-false _ c.if-not-asked.false)
-
-pub write-requires-clause-room : goal.write-requires-clause-room
-write-requires-clause-room c =
-    room c.args.sheet.now c.args.report.now c.args.currency.now c.args.class c.read_sheet-known.result c.read_sheet-known.ensures c.if-known-ne0.false
-    c.asked-asked.result c.asked-asked.ensures (not-false _ c.if-not-asked.false)
-
-pub returns : goal.returns
-returns c =
-    answers c.args.sheet.now c.args.report.now c.args.currency.now c.args.class c.read_sheet-known.result c.read_sheet-known.ensures c.if-known-ne0.false
-    c.asked-asked.result c.asked-asked.ensures (not-false _ c.if-not-asked.false) c.write.result c.write.new.report c.write.ensures
