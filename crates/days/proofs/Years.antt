@@ -1,16 +1,16 @@
 -- The years of the table: a guess at a day's year, and days that each year has.
-use Prim.Native.Nat.{ℕ, zero, suc, ◌+◌, ◌*◌, ◌/◌, ◌≤◌, ◌<◌}
+use Prim.Native.Nat.{ℕ, zero, suc, ◌+◌, ◌-◌, ◌*◌, ◌/◌, ◌≤◌, ◌<◌}
 use native.Mathlib.Nat.{le_trans, not-suc-le-zero}
 use native.Mathlib.Omega.{arith}
-use mathlib.Core.Bool.{Bool, true, ◌&&◌}
+use mathlib.Core.Bool.{Bool, true, false, ◌&&◌}
 use mathlib.Core.List.{List, [], ◌∷◌}
-use mathlib.Core.Path.{◌≡◌, refl, ◌∙◌}
-use borrow.Author.Tests.{leb-true}
+use mathlib.Core.Path.{◌≡◌, refl, sym, ◌∙◌}
+use borrow.Author.Tests.{leb-true, ltb-true, ltb-false}
 use lib.Dec.{leb, ltb}
 use lib.ListN.{length, get_or}
 use Rattle.paper.specs.Units.{Year, Day}
-use Rattle.paper.specs.Days.{leap, new_years, month_days, is_real, year_of}
-use Rattle.paper.proofs.Lists.{both, within}
+use Rattle.paper.specs.Days.{new_years, year_of}
+use Rattle.paper.proofs.Lists.{both}
 use Rattle.paper.proofs.Calendar.{year_at}
 
 -- Whether each 1 January, from a given year on, is at most 366 days a year after the first, and no more than one such year less
@@ -41,20 +41,26 @@ after d i h l = go (get_or new_years i 0) (near_at 0 new_years refl i h).1
     go : (n : Day) → 366 * (0 + i) ≤ n + 366 → d < n
     go n k = omega arith
 
+-- What the code has as its guess, and the place of the 1 January behind it
+abbrev pub guess : Day → Year
+guess d = 2000 + d / 366
+
 -- The guess is the year, where the next 1 January is after the day
-pub year_guessed : (d : Day) → d / 366 < 399 → d < get_or new_years (d / 366 + 1) 0 → year_of d ≡ 2000 + d / 366
-year_guessed d h l = year_at d (d / 366) (omega arith) (not_after d (d / 366) (omega arith) (omega arith)) (λ k. l)
+pub year_guessed : (d next : Day) → d / 366 < 399 → next ≡ get_or new_years (guess d + 1 - 2000) 0 → ltb d next ≡ true → guess d ≡ year_of d
+year_guessed d next h e l =
+    let place : guess d + 1 - 2000 ≡ d / 366 + 1 = omega arith in
+    sym (year_at d (d / 366) (omega arith) (not_after d (d / 366) (omega arith) (omega arith)) (λ k. rw (← place, ← e) (ltb-true d next l)))
 
 -- Where it is not, the year is the next
-pub year_next : (d : Day) → d / 366 < 399 → get_or new_years (d / 366 + 1) 0 ≤ d → year_of d ≡ 2001 + d / 366
-year_next d h l =
-    year_at d (d / 366 + 1) (omega arith) l (λ k. after d (d / 366 + 1 + 1) k (omega arith)) ∙ omega arith
+pub year_next : (d next : Day) → d / 366 < 399 → next ≡ get_or new_years (guess d + 1 - 2000) 0 → ltb d next ≡ false → guess d + 1 ≡ year_of d
+year_next d next h e l =
+    let place : guess d + 1 - 2000 ≡ d / 366 + 1 = omega arith in
+    sym
+    (year_at d (d / 366 + 1) (omega arith) (rw (← place, ← e) (ltb-false d next l)) (λ k. after d (d / 366 + 1 + 1) k (omega arith))
+    ∙ omega arith)
 
 -- The last guess is the last year
-pub year_last : (d : Day) → d / 366 ≡ 399 → year_of d ≡ 2399
-year_last d h = year_at d 399 (omega arith) (not_after d 399 (omega arith) (omega arith)) (λ k. absurd (omega arith))
-
--- A day that every month of a number has is real in each year of the table
-pub real_day : (y : Year) → (2000 ≤ y) × (y ≤ 2399) → (month day : ℕ) → ltb day (get_or (month_days (leap y)) month 0) ≡ true
-    → is_real y month day ≡ true
-real_day y b month day e = simp (within 2000 2399 y b.0 b.1, e)
+pub year_last : (d : Day) → guess d ≡ 2399 → guess d ≡ year_of d
+year_last d h =
+    let last : d / 366 ≡ 399 = omega arith in
+    h ∙ sym (year_at d 399 (omega arith) (not_after d 399 (omega arith) (omega arith)) (λ k. absurd (omega arith)))

@@ -6,7 +6,7 @@ mod table;
 ghost use Rattle.std.specs.Prelude.{true, ◌≡◌, ◌+◌, ◌-◌, ◌*◌, ◌/◌, ◌≤◌, ◌<◌, take, get_or};
 ghost use Rattle.paper.specs.Lists.{between, sum};
 ghost use Rattle.paper.specs.Days.{leap, new_years, month_days, is_real, day_in, day_of, weekday, year_of, spring_moon, easter, is_closing, is_open, working_after};
-ghost use Rattle.days.specs.Dated.{dated};
+ghost use Rattle.answers.specs.Options.{answer};
 
 pub use table::new_years;
 
@@ -22,12 +22,7 @@ pub type Days = u64; // a number of days
 
 pub type DayOfWeek = u64; // 0 for Monday to 6 for Sunday
 
-// What a date is: a day, or nothing where there is no such day of 2000 to 2399.
-#[derive(Drop)]
-pub enum Dated {
-    Day(Day),
-    Nothing,
-}
+const SATURDAY: DayOfWeek = 5;
 
 // Every fourth year, but of the centuries every fourth only.
 fn is_leap(y: Year) -> bool
@@ -36,8 +31,7 @@ fn is_leap(y: Year) -> bool
     y % 4 == 0 && (y % 100 != 0 || y % 400 == 0)
 }
 
-// The days of a year before a month, were February of 30 days: then months have 31 and 30 by turns, July and August both
-// 31. A formula, since a table would be written to the stack whole at each use.
+// The days of a year before a month, were February of 30 days: then months have 31 and 30 by turns, July and August both 31.
 fn even_before(month: Month) -> Days
     requires { month ≤ 12 }
     ensures { result ≡ (367 * month + 5) / 12 }
@@ -75,42 +69,36 @@ fn days_before(y: Year, month: Month) -> Days
 fn is_real(y: Year, month: Month, day: Days) -> bool
     ensures { result ≡ is_real y month day }
 {
-    if y < 2000 {
-        return false;
-    }
-    if 2399 < y {
-        return false;
-    }
-    day < month_days(y, month)
+    (2000..=2399).contains(&y) && day < month_days(y, month)
+}
+
+// The 1 January of a year of the table.
+fn new_year(y: Year) -> Day
+    requires { (2000 ≤ y) × (y ≤ 2399) }
+    ensures { result ≡ get_or new_years (y - 2000) 0 }
+{
+    new_years()[(y - 2000) as usize]
 }
 
 // The day of a year, a month and a day of the month that are real.
-fn day_in(years: &[Day; 400], y: Year, month: Month, day: Days) -> Day
-    requires table { years.now ≡ new_years }
-    requires real { is_real y month day ≡ true }
+fn day_in(y: Year, month: Month, day: Days) -> Day
+    requires { is_real y month day ≡ true }
     ensures { result ≡ day_in y month day }
 {
-    years[(y - 2000) as usize] + days_before(y, month) + day
+    new_year(y) + days_before(y, month) + day
 }
 
-// The day of a date. `years` is what `new_years` gives: the caller makes it once, and lends it.
-pub fn day_of(years: &[Day; 400], date: Date) -> Dated
-    requires { years.now ≡ new_years }
-    ensures { result ≡ dated (day_of date) }
+// The day of a date, or nothing where there is no such day of 2000 to 2399.
+pub fn day_of(date: Date) -> Option<Day>
+    ensures { result ≡ answer (day_of date) }
 {
     let y: Year = date / 10_000;
     let month = date / 100 % 100; // of the year, from 1
     let day = date % 100; // of the month, from 1
-    if month < 1 {
-        return Dated::Nothing;
-    }
-    if day < 1 {
-        return Dated::Nothing;
-    }
-    if is_real(y, month - 1, day - 1) {
-        Dated::Day(day_in(years, y, month - 1, day - 1))
+    if 1 <= month && 1 <= day && is_real(y, month - 1, day - 1) {
+        Some(day_in(y, month - 1, day - 1))
     } else {
-        Dated::Nothing
+        None
     }
 }
 
@@ -118,10 +106,7 @@ pub fn day_of(years: &[Day; 400], date: Date) -> Dated
 pub fn follows(first: Day, second: Day, most: Days) -> bool
     ensures { result ≡ between 1 most (second - first) }
 {
-    if second <= first {
-        return false;
-    }
-    second - first <= most
+    first < second && second - first <= most
 }
 
 // The weekday: 1 January 2000 was a Saturday.
@@ -132,19 +117,15 @@ pub fn weekday(day: Day) -> DayOfWeek
 }
 
 // The year of a day. No year has more than 366 days, so the guess is never late; over 400 years it is at most one year early.
-fn year_of(years: &[Day; 400], day: Day) -> Year
-    requires table { years.now ≡ new_years }
-    requires in_time { day < 146_400 }
+fn year_of(day: Day) -> Year
+    requires { day < 146_400 }
     ensures { result ≡ year_of day }
 {
-    let guess = day / 366; // years from 2000
-    if guess == 399 {
-        return 2399;
-    }
-    if day < years[(guess + 1) as usize] {
-        2000 + guess
+    let guess: Year = 2000 + day / 366;
+    if guess == 2399 || day < new_year(guess + 1) {
+        guess
     } else {
-        2001 + guess
+        guess + 1
     }
 }
 
@@ -158,77 +139,55 @@ fn spring_moon(y: Year) -> Days
     let later = century - century / 4; // days, for leap days left out
     let earlier = (8 * century + 13) / 25; // days, for a moon quicker than its cycle
     let round: Days = (19 * cycle + 15 + later - earlier) % 30;
-    if round == 29 {
-        return 28;
+    match round {
+        29 => 28,
+        28 if 10 < cycle => 27,
+        _ => round,
     }
-    if round != 28 {
-        return round;
-    }
-    if 10 < cycle { 27 } else { 28 }
 }
 
 // Easter Sunday: the first Sunday after that moon.
-fn easter(years: &[Day; 400], y: Year) -> Day
-    requires table { years.now ≡ new_years }
-    requires in_range { (2000 ≤ y) × (y ≤ 2399) }
+fn easter(y: Year) -> Day
+    requires { (2000 ≤ y) × (y ≤ 2399) }
     ensures { result ≡ easter y }
 {
-    let moon = day_in(years, y, 2, 20) + spring_moon(y); // day
+    let moon = day_in(y, 2, 20) + spring_moon(y); // day
     let next: Day = moon + 1;
     next + (6 - weekday(next))
 }
 
 // Whether a day is one of a year's closing days: 1 January, Good Friday, Easter Monday, 1 May, 25 and 26 December, in the paper's
 // order.
-fn is_closing(years: &[Day; 400], y: Year, day: Day) -> bool
-    requires table { years.now ≡ new_years }
-    requires in_range { (2000 ≤ y) × (y ≤ 2399) }
+fn is_closing(y: Year, day: Day) -> bool
+    requires { (2000 ≤ y) × (y ≤ 2399) }
     ensures { result ≡ is_closing y day }
 {
-    let sunday: Day = easter(years, y);
-    if day == day_in(years, y, 0, 0) {
-        return true;
-    }
-    if day == sunday - 2 {
-        return true;
-    }
-    if day == sunday + 1 {
-        return true;
-    }
-    if day == day_in(years, y, 4, 0) {
-        return true;
-    }
-    if day == day_in(years, y, 11, 24) {
-        return true;
-    }
-    day == day_in(years, y, 11, 25)
+    let sunday: Day = easter(y);
+    day == day_in(y, 0, 0)
+        || day == sunday - 2
+        || day == sunday + 1
+        || day == day_in(y, 4, 0)
+        || day == day_in(y, 11, 24)
+        || day == day_in(y, 11, 25)
 }
 
 // Whether a day is a working day.
-pub fn is_open(years: &[Day; 400], day: Day) -> bool
-    requires table { years.now ≡ new_years }
-    requires in_time { day < 146_400 }
+pub fn is_open(day: Day) -> bool
+    requires { day < 146_400 }
     ensures { result ≡ is_open day }
 {
-    if 4 < weekday(day) {
-        return false;
-    }
-    !is_closing(years, year_of(years, day), day)
+    weekday(day) < SATURDAY && !is_closing(year_of(day), day)
 }
 
 // The first working day after a day. The fifth day is open where the first four are not, so it is not tested.
-pub fn working_after(years: &[Day; 400], day: Day) -> Day
-    requires table { years.now ≡ new_years }
-    requires in_time { day < 146_097 }
+pub fn working_after(day: Day) -> Day
+    requires { day < 146_097 }
     ensures { result ≡ working_after day }
 {
     let mut d: Day = day + 1;
     let mut left: Days = 4; // days to test
     let first: Day = loop {
-        if left == 0 {
-            break d;
-        }
-        if is_open(years, d) {
+        if left == 0 || is_open(d) {
             break d;
         }
         d += 1;

@@ -5,7 +5,7 @@ ghost use Rattle.paper.specs.Days.{new_years};
 use crate::Day;
 
 // The days from 1 January 2000 to each 1 January of 2000 to 2399.
-const NEW_YEARS: [Day; 400] = [
+static NEW_YEARS: [Day; 400] = [
     0, 366, 731, 1096, 1461, 1827, 2192, 2557, 2922, 3288, 3653, 4018, 4383, 4749, 5114, 5479,
     5844, 6210, 6575, 6940, 7305, 7671, 8036, 8401, 8766, 9132, 9497, 9862, 10227, 10593, 10958,
     11323, 11688, 12054, 12419, 12784, 13149, 13515, 13880, 14245, 14610, 14976, 15341, 15706,
@@ -40,9 +40,9 @@ const NEW_YEARS: [Day; 400] = [
     145367, 145732,
 ];
 
-// The table, for a caller to hold and to lend: where a constant is indexed, all of it is written to the stack first.
-pub fn new_years() -> [Day; 400]
-    ensures { result ≡ new_years }
+// The table, read where it stands.
+pub fn new_years() -> &'static [Day; 400]
+    ensures { result.now ≡ new_years }
 {
-    NEW_YEARS
+    &NEW_YEARS
 }

@@ -1,9 +1,9 @@
 // Lines and fields by their places: a line of a lent sheet is looked through once, for where its fields end.
 #![tactic(auto)]
 
-ghost use Rattle.std.specs.Prelude.{◌≡◌, ◌+◌, ◌-◌, ◌≤◌, ◌<◌, eqb, length, get_or};
+ghost use Rattle.std.specs.Prelude.{◌≡◌, ◌-◌, ◌≤◌, ◌<◌, length, get_or};
 ghost use Rattle.paper.specs.Text.{LF};
-ghost use Rattle.places.specs.Places.{ended_length, line_at};
+ghost use Rattle.places.specs.Places.{ended_length, line_at, field_text, Stands};
 
 pub type Place = usize; // in the sheet, in bytes from its start
 
@@ -15,22 +15,33 @@ pub struct Line {
     pub next: Place,
 }
 
+impl Line {
+    // The field so many places behind the letter, as a part of the sheet.
+    pub fn field<'a>(
+        &self,
+        s: &'a [u8],
+        k: usize, // fields behind the letter
+    ) -> &'a [u8]
+        requires { Stands s.now self.now.ends k }
+        ensures { result.now ≡ field_text s.now self.now.ends k }
+    {
+        &s[self.ends[k] + 1..self.ends[k + 1]]
+    }
+}
+
 // The place behind the last LF: each line that starts before it has its LF.
 pub fn ended(s: &[u8]) -> Place
     ensures { result ≡ ended_length s.now }
 {
-    let mut n: Place = s.len();
-    while 0 < n {
-        if s[n - 1] == 10 {
-            return n;
-        }
-        n -= 1;
+    match s.iter().rposition(|&b| b == b'\n') {
+        Some(n) => n + 1,
+        None => 0,
     }
-    0
 }
 
 // The line that starts at a place. An LF stands right before `end`, so that the line has one.
-// Its bytes are looked at by eights: unrolled, that is too long to be put into each caller, where registers run short.
+// Its bytes are looked at by eights, and not by a `for`, which is slower (docs/DECISIONS.md, "Speed"): unrolled, that is too long
+// to be put into each caller, where registers run short.
 pub fn line_at(s: &[u8], at: Place, end: Place) -> Line
     requires { (at < end) × (end ≤ length s.now) × (get_or s.now (end - 1) 0 ≡ LF) }
     ensures { result ≡ line_at s.now at }
@@ -42,7 +53,7 @@ pub fn line_at(s: &[u8], at: Place, end: Place) -> Line
         let mut k: usize = 0; // bytes of the eight
         while k < 8 {
             let b = s[i]; // a byte
-            if b == 10 {
+            if b == b'\n' {
                 if count < 10 {
                     ends[count] = i;
                 }
@@ -52,7 +63,7 @@ pub fn line_at(s: &[u8], at: Place, end: Place) -> Line
                     next: i + 1,
                 };
             }
-            if b == 59 {
+            if b == b';' {
                 if count < 10 { // there are more
                     ends[count] = i;
                 }
@@ -62,15 +73,4 @@ pub fn line_at(s: &[u8], at: Place, end: Place) -> Line
             k += 1;
         }
     }
-}
-
-// Whether a field is blank.
-pub fn is_blank(
-    ends: &[Place; 10],
-    k: usize, // fields behind the letter
-) -> bool
-    requires { (k < 9) × (get_or ends.now k 0 < 18446744073709551615) }
-    ensures { result ≡ eqb (get_or ends.now k 0 + 1) (get_or ends.now (k + 1) 0) }
-{
-    ends[k] + 1 == ends[k + 1]
 }

@@ -6,11 +6,13 @@ use native.Mathlib.Omega.{arith}
 use mathlib.Core.List.{List, [], ◌∷◌}
 use mathlib.Core.Logic.{◌⊎◌, inl, inr, ⊎_elim}
 use mathlib.Core.Path.{◌≡◌, sym, ap, ◌∙◌}
-use borrow.Author.Tests.{eq-eqb, ne_eqb}
+use borrow.Author.Tests.{eq-eqb, ne_eqb, lt-ltb, le-ltb}
+use Rattle.std.specs.Prelude.{Some, None}
+use Rattle.std.specs.Bool.{then_some}
 use lib.ListN.{length, get_or, take, drop}
 use lib.Seq.{drop-cons, drop-length, length-take-le, get_or-take}
 use Rattle.tables.specs.Numbers.{highest, number_place}
-use Rattle.tables.specs.Ranks.{Searchable}
+use Rattle.tables.specs.Ranks.{Searchable, found_place}
 
 -- Numbers that are not the one looked for are passed
 passed : (code : ℕ) (ms : List ℕ) (n : ℕ) → n ≤ length ms → ((k : ℕ) → k < n → get_or ms k 0 ≡ code → ⊥)
@@ -93,30 +95,18 @@ module _ (codes : List ℕ) (count code : ℕ) (long : length codes ≡ 256) (fe
 
   -- The place up to which all are below it, and from which on none is
   module _ (place : ℕ) (inside : place < 256) (b : Below codes code place) (a : Above codes code (suc place)) where
-    pub found : get_or codes place 0 ≡ code → place ≡ number_place used code
-    found e = go (dec_lt place count)
-      where
-        go : Dec (place < count) → place ≡ number_place used code
-        go (yes h) =
-            let here : get_or used place 0 ≡ code = get_or-take count codes place 0 h ∙ e in
-            sym
-            (passed code used place (omega (arith, used_length))
-            (λ k l i. let low = b k l in omega (arith, sym (get_or-take count codes k 0 (omega arith)) ∙ i))
-            ∙ ap (λ (l : List ℕ). place + number_place l code) (drop-cons used place 0 (omega (arith, used_length)))
-            ∙ rw (eq-eqb (get_or used place 0) code here, number_place) (add-zero place))
-        go (no h) =
-            -- it is the highest, which first stands behind them
-            let top : get_or codes place 0 ≡ highest = ordered.rest place (omega (arith, h)) inside in
-            let first : place ≡ count = go_first top (dec_lt count place) in
-            first ∙ none (λ k l i. let low = ordered.low k l in omega (arith, top, e, i))
-          where
-            go_first : get_or codes place 0 ≡ highest → Dec (count < place) → place ≡ count
-            go_first top (yes l) =
-                let low = b count l in absurd (omega (arith, ordered.rest count (omega arith) (omega arith), top, e))
-            go_first top (no l) = omega (arith, h, l)
+    pub found : place < count → get_or codes place 0 ≡ code → Some place ≡ found_place used code
+    found h e =
+        let here : get_or used place 0 ≡ code = get_or-take count codes place 0 h ∙ e in
+        let its : number_place used code ≡ place =
+        passed code used place (omega (arith, used_length))
+        (λ k l i. let low = b k l in omega (arith, sym (get_or-take count codes k 0 (omega arith)) ∙ i))
+        ∙ ap (λ (l : List ℕ). place + number_place l code) (drop-cons used place 0 (omega (arith, used_length)))
+        ∙ rw (eq-eqb (get_or used place 0) code here, number_place) (add-zero place) in
+        sym (rw (its, used_length, lt-ltb place count h, then_some))
 
-    pub missing : (get_or codes place 0 ≡ code → ⊥) → count ≡ number_place used code
-    missing e = none other
+    pub missing : (place < count → get_or codes place 0 ≡ code → ⊥) → None ≡ found_place used code
+    missing e = sym (rw (← none other, used_length, le-ltb count count (omega arith), then_some))
       where
         other : (k : ℕ) → k < count → get_or codes k 0 ≡ code → ⊥
         other k l i = go (dec_lt k place) (dec_lt place k)
@@ -127,4 +117,4 @@ module _ (codes : List ℕ) (count code : ℕ) (long : length codes ≡ 256) (fe
                 let up = ordered.rise place k d l in
                 let least = a place (omega arith) inside in
                 omega (arith, i)
-            go (no h) (no d) = let one : k ≡ place = omega (arith, h, d) in e (rw one at i)
+            go (no h) (no d) = let one : k ≡ place = omega (arith, h, d) in e (rw one at l) (rw one at i)

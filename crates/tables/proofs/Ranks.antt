@@ -6,6 +6,7 @@ use mathlib.Core.Bool.{Bool, true, false, ◌||◌, or-true}
 use mathlib.Core.List.{List, [], ◌∷◌, ◌++◌, map}
 use mathlib.Core.Option.{some}
 use mathlib.Core.Path.{◌≡◌, refl, sym, ap, ap₂, ◌∙◌}
+use Rattle.std.specs.Prelude.{Result, Ok, Err, is_ok}
 use borrow.Author.Tests.{eqb-true, eqb-false, eq-eqb, ne_eqb, ltb-true, ltb-false, lt-ltb, le-ltb}
 use lib.Dec.{eqb, ltb}
 use lib.ListN.{length, take, replicate, length-append, length-map}
@@ -19,8 +20,7 @@ use Rattle.paper.proofs.Currencies.{has_currency_lem, each_currency}
 use Rattle.tables.specs.Numbers.{currency_number, number_place}
 use Rattle.tables.specs.Held.{currency_table}
 use Rattle.tables.proofs.Numbers.{currency_number_before, currency_number_same}
-use Rattle.tables.specs.Ranks.{ranked_of, put_in, inserted_at}
-use Rattle.tables.specs.declared.Standing.{Standing}
+use Rattle.tables.specs.Ranks.{one_further, ranked_of, rank_of, put_in, inserted_at}
 
 -- A number is below another, the same, or above it
 data Placing (m n : ℕ) : Type 0 where
@@ -36,13 +36,22 @@ placing m n = go (eqb m n) refl (ltb m n) refl
     go false e true f = lower (ltb-true m n f)
     go false e false f = let other = eqb-false m n e in higher (omega (arith, ltb-false m n f, other))
 
+-- One place further on it is there as before
+further_rank : (s : Result ℕ ℕ) → rank_of (one_further s) ≡ suc (rank_of s)
+further_rank (Ok rank) = refl
+further_rank (Err rank) = refl
+
+further_there : (s : Result ℕ ℕ) → is_ok (one_further s) ≡ is_ok s
+further_there (Ok rank) = refl
+further_there (Err rank) = refl
+
 module _ (own : ℕ) where
   -- How it stands: behind all that are below it, at the first that is not
-  data Stands : List ℕ → Standing → Type 0 where
-    behind : Stands [] (record { rank = 0; there = false })
-    here : {n : ℕ} {ns : List ℕ} → n ≡ own → Stands (n ∷ ns) (record { rank = 0; there = true })
-    ahead : {n : ℕ} {ns : List ℕ} → own < n → Stands (n ∷ ns) (record { rank = 0; there = false })
-    further : {n : ℕ} {ns : List ℕ} {s : Standing} → n < own → Stands ns s → Stands (n ∷ ns) (record { rank = suc s.rank; there = s.there })
+  data Stands : List ℕ → Result ℕ ℕ → Type 0 where
+    behind : Stands [] (Err 0)
+    here : {n : ℕ} {ns : List ℕ} → n ≡ own → Stands (n ∷ ns) (Ok 0)
+    ahead : {n : ℕ} {ns : List ℕ} → own < n → Stands (n ∷ ns) (Err 0)
+    further : {n : ℕ} {ns : List ℕ} {s : Result ℕ ℕ} → n < own → Stands ns s → Stands (n ∷ ns) (one_further s)
 
   stands : (ns : List ℕ) → Stands ns (ranked_of ns own)
   stands [] = behind
@@ -54,38 +63,39 @@ module _ (own : ℕ) where
       go (higher h) rest = rw (ne_eqb n own (λ e. omega arith), le-ltb n own (omega arith), ranked_of) (ahead h)
 
   -- A rank is one of theirs, or the one behind them
-  pub rank_most : (ns : List ℕ) → (ranked_of ns own).rank ≤ length ns
+  pub rank_most : (ns : List ℕ) → rank_of (ranked_of ns own) ≤ length ns
   rank_most ns = go (stands ns)
     where
-      go : {ns : List ℕ} {s : Standing} → Stands ns s → s.rank ≤ length ns
+      go : {ns : List ℕ} {s : Result ℕ ℕ} → Stands ns s → rank_of s ≤ length ns
       go behind = omega arith
       go (here e) = omega arith
       go (ahead h) = omega arith
-      go (further h rest) = omega (arith, go rest)
+      go (further {s = s} h rest) = omega (arith, further_rank s, go rest)
 
   -- What is there has its own place as its rank
-  pub rank_place : (ns : List ℕ) → (ranked_of ns own).there ≡ true → (ranked_of ns own).rank ≡ number_place ns own
+  pub rank_place : (ns : List ℕ) → is_ok (ranked_of ns own) ≡ true → rank_of (ranked_of ns own) ≡ number_place ns own
   rank_place ns = go (stands ns)
     where
-      go : {ns : List ℕ} {s : Standing} → Stands ns s → s.there ≡ true → s.rank ≡ number_place ns own
+      go : {ns : List ℕ} {s : Result ℕ ℕ} → Stands ns s → is_ok s ≡ true → rank_of s ≡ number_place ns own
       go behind t = refl
       go (here {n} e) t = rw (eq-eqb n own e, number_place)
       go (ahead h) t = never t
-      go (further {n} h rest) t = rw (ne_eqb n own (λ e. omega arith), number_place) (ap suc (go rest t))
+      go (further {n} {s = s} h rest) t =
+          rw (further_rank s, ne_eqb n own (λ e. omega arith), number_place) (ap suc (go rest (sym (further_there s) ∙ t)))
 
 module _ (n : ℕ) (ns : List ℕ) (own : ℕ) where
   -- Whether it is there, by the first
-  there_here : n ≡ own → (ranked_of (n ∷ ns) own).there ≡ true
+  there_here : n ≡ own → is_ok (ranked_of (n ∷ ns) own) ≡ true
   there_here e = rw (eq-eqb n own e, ranked_of)
 
-  there_ahead : own < n → (ranked_of (n ∷ ns) own).there ≡ false
+  there_ahead : own < n → is_ok (ranked_of (n ∷ ns) own) ≡ false
   there_ahead h = rw (ne_eqb n own (λ e. omega arith), le-ltb n own (omega arith), ranked_of)
 
-  there_on : n < own → (ranked_of (n ∷ ns) own).there ≡ (ranked_of ns own).there
-  there_on h = rw (ne_eqb n own (λ e. omega arith), lt-ltb n own h, ranked_of)
+  there_on : n < own → is_ok (ranked_of (n ∷ ns) own) ≡ is_ok (ranked_of ns own)
+  there_on h = rw (ne_eqb n own (λ e. omega arith), lt-ltb n own h, ranked_of) (further_there (ranked_of ns own))
 
 -- It is not there where all are below it
-pub none_there : (own : ℕ) {ns : List ℕ} → Each (λ n. n < own) ns → (ranked_of ns own).there ≡ false
+pub none_there : (own : ℕ) {ns : List ℕ} → Each (λ n. n < own) ns → is_ok (ranked_of ns own) ≡ false
 none_there own nil = refl
 none_there own (cons {a} {rest} low each) = there_on a rest own low ∙ none_there own each
 
@@ -112,41 +122,42 @@ pushed own (suc most) (n ∷ ns) h = ap (λ (l : List ℕ). own ∷ l) (pushed n
 
 module _ (own : ℕ) where
   -- What is not there is put in at its rank
-  pub row_more : (ns : List ℕ) → (ranked_of ns own).there ≡ false → length (in_row own ns) ≡ suc (length ns)
+  pub row_more : (ns : List ℕ) → is_ok (ranked_of ns own) ≡ false → length (in_row own ns) ≡ suc (length ns)
   row_more ns = go (stands own ns)
     where
-      go : {ns : List ℕ} {s : Standing} → Stands own ns s → s.there ≡ false → length (in_row own ns) ≡ suc (length ns)
+      go : {ns : List ℕ} {s : Result ℕ ℕ} → Stands own ns s → is_ok s ≡ false → length (in_row own ns) ≡ suc (length ns)
       go behind t = refl
       go (here e) t = never (sym t)
       go (ahead {n} {ns} h) t = ap length (row_first own n ns h)
-      go (further {n} {ns} h rest) t = ap length (row_on own n ns h) ∙ ap suc (go rest t)
+      go (further {n} {ns} {s} h rest) t = ap length (row_on own n ns h) ∙ ap suc (go rest (sym (further_there s) ∙ t))
 
-  pub row_put : (most : ℕ) (ns free : List ℕ) → most ≤ length free → (ranked_of ns own).there ≡ false
-      → put_in (ranked_of ns own).rank own (take most (ns ++ free)) ≡ take most (in_row own ns ++ free)
+  pub row_put : (most : ℕ) (ns free : List ℕ) → most ≤ length free → is_ok (ranked_of ns own) ≡ false
+      → put_in (rank_of (ranked_of ns own)) own (take most (ns ++ free)) ≡ take most (in_row own ns ++ free)
   row_put most ns free = go most (stands own ns)
     where
-      go : (most : ℕ) {ns : List ℕ} {s : Standing} → Stands own ns s → most ≤ length free → s.there ≡ false
-          → put_in s.rank own (take most (ns ++ free)) ≡ take most (in_row own ns ++ free)
+      go : (most : ℕ) {ns : List ℕ} {s : Result ℕ ℕ} → Stands own ns s → most ≤ length free → is_ok s ≡ false
+          → put_in (rank_of s) own (take most (ns ++ free)) ≡ take most (in_row own ns ++ free)
       go zero v h t = refl
       go (suc most) behind h t = pushed own (suc most) free h
       go (suc most) (here e) h t = never (sym t)
       go (suc most) (ahead {n} {ns} l) h t =
           ap (λ (l : List ℕ). own ∷ l) (pushed n most (ns ++ free) (omega (arith, length-append ns free))) ∙ rw (row_first own n ns l)
-      go (suc most) (further {n} {ns} l rest) h t =
-          ap (λ (l : List ℕ). n ∷ l) (go most rest (omega arith) t) ∙ rw (row_on own n ns l)
+      go (suc most) (further {n} {ns} {s} l rest) h t =
+          ap (λ (rank : ℕ). put_in rank own (take (suc most) ((n ∷ ns) ++ free))) (further_rank s)
+          ∙ ap (λ (l : List ℕ). n ∷ l) (go most rest (omega arith) (sym (further_there s) ∙ t)) ∙ rw (row_on own n ns l)
 
 -- A number is there where it was put in, or was before
-pub there_put : (d : ℕ) (ns : List ℕ) (n : ℕ) → (ranked_of (in_row d ns) n).there ≡ (eqb d n || (ranked_of ns n).there)
+pub there_put : (d : ℕ) (ns : List ℕ) (n : ℕ) → is_ok (ranked_of (in_row d ns) n) ≡ (eqb d n || is_ok (ranked_of ns n))
 there_put d [] n = go (placing d n)
   where
-    go : Placing d n → (ranked_of (d ∷ []) n).there ≡ (eqb d n || false)
+    go : Placing d n → is_ok (ranked_of (d ∷ []) n) ≡ (eqb d n || false)
     go (lower l) = there_on d [] n l ∙ sym (rw (ne_eqb d n (λ e. omega arith)))
     go (equal e) = there_here d [] n e ∙ sym (rw (eq-eqb d n e))
     go (higher l) = there_ahead d [] n l ∙ sym (rw (ne_eqb d n (λ e. omega arith)))
 there_put d (m ∷ ms) n = go (placing d m) (placing d n) (placing m n) (there_put d ms n)
   where
-    go : Placing d m → Placing d n → Placing m n → (ranked_of (in_row d ms) n).there ≡ (eqb d n || (ranked_of ms n).there)
-        → (ranked_of (in_row d (m ∷ ms)) n).there ≡ (eqb d n || (ranked_of (m ∷ ms) n).there)
+    go : Placing d m → Placing d n → Placing m n → is_ok (ranked_of (in_row d ms) n) ≡ (eqb d n || is_ok (ranked_of ms n))
+        → is_ok (ranked_of (in_row d (m ∷ ms)) n) ≡ (eqb d n || is_ok (ranked_of (m ∷ ms) n))
     go (lower h) (lower l) p rest = rw (row_first d m ms h, ne_eqb d n (λ e. omega arith)) (there_on d (m ∷ ms) n l)
     go (lower h) (equal e) p rest = rw (row_first d m ms h, eq-eqb d n e) (there_here d (m ∷ ms) n e)
     go (lower h) (higher l) p rest = rw (row_first d m ms h, ne_eqb d n (λ e. omega arith), there_ahead m ms n (omega arith)) (there_ahead d (m ∷ ms) n l)
@@ -194,10 +205,10 @@ money_more s ss p each = placed_numbers s.currency (currencies ss) p (each_curre
 
 -- A currency is there where a row has it
 pub rank_has : (ss : List SecurityRow) → Each Currencied ss → (c : Currency) → is_currency c ≡ true
-    → (ranked_of (money_of ss) (currency_number c)).there ≡ has_currency ss c
+    → is_ok (ranked_of (money_of ss) (currency_number c)) ≡ has_currency ss c
 rank_has [] nil c p = refl
 rank_has (s ∷ ss) (cons q each) c p =
-    ap (λ (ns : List ℕ). (ranked_of ns (currency_number c)).there) (money_more s ss q each)
+    ap (λ (ns : List ℕ). is_ok (ranked_of ns (currency_number c))) (money_more s ss q each)
     ∙ there_put (currency_number s.currency) (money_of ss) (currency_number c)
     ∙ ap₂ ◌||◌ (sym (currency_number_same s.currency c q p)) (rank_has ss each c p)
     ∙ go (same s.currency c)
@@ -207,7 +218,7 @@ rank_has (s ∷ ss) (cons q each) c p =
     go false = refl
 
 -- So each row's own is there
-pub each_there : (ss : List SecurityRow) → Each Currencied ss → Each (λ s. (ranked_of (money_of ss) (currency_number s.currency)).there ≡ true) ss
+pub each_there : (ss : List SecurityRow) → Each Currencied ss → Each (λ s. is_ok (ranked_of (money_of ss) (currency_number s.currency)) ≡ true) ss
 each_there [] nil = nil
 each_there (s ∷ ss) (cons q each) =
     cons (put s ∙ rw (eq-eqb own own refl))
@@ -216,27 +227,27 @@ each_there (s ∷ ss) (cons q each) =
     own : ℕ
     own = currency_number s.currency
 
-    put : (r : SecurityRow) → (ranked_of (money_of (s ∷ ss)) (currency_number r.currency)).there
-        ≡ (eqb own (currency_number r.currency) || (ranked_of (money_of ss) (currency_number r.currency)).there)
+    put : (r : SecurityRow) → is_ok (ranked_of (money_of (s ∷ ss)) (currency_number r.currency))
+        ≡ (eqb own (currency_number r.currency) || is_ok (ranked_of (money_of ss) (currency_number r.currency)))
     put r =
-        ap (λ (ns : List ℕ). (ranked_of ns (currency_number r.currency)).there) (money_more s ss q each)
+        ap (λ (ns : List ℕ). is_ok (ranked_of ns (currency_number r.currency))) (money_more s ss q each)
         ∙ there_put own (money_of ss) (currency_number r.currency)
 
 -- A row more and the currencies of the rows above, where its own is there and where it is not
 module _ (ss : List SecurityRow) (each : Each Currencied ss) (s : SecurityRow) (p : Currencied s) where
-  abbrev standing : Standing
+  abbrev standing : Result ℕ ℕ
   standing = ranked_of (money_of ss) (currency_number s.currency)
 
-  pub money_known : standing.there ≡ true → currencies (s ∷ ss) ≡ currencies ss
+  pub money_known : is_ok standing ≡ true → currencies (s ∷ ss) ≡ currencies ss
   money_known t = has_currency_lem ss s.currency (sym (rank_has ss each s.currency p) ∙ t)
 
-  module _ (t : standing.there ≡ false) where
+  module _ (t : is_ok standing ≡ false) where
     pub money_longer : length (currencies (s ∷ ss)) ≡ suc (length (currencies ss))
     money_longer =
         sym (length-map (currencies (s ∷ ss)) currency_number) ∙ ap length (money_more s ss p each)
         ∙ row_more (currency_number s.currency) (money_of ss) t ∙ ap suc (length-map (currencies ss) currency_number)
 
-    pub money_new : inserted_at (currency_table (currencies ss)) standing.rank (currency_number s.currency) ≡ currency_table (currencies (s ∷ ss))
+    pub money_new : inserted_at (currency_table (currencies ss)) (rank_of standing) (currency_number s.currency) ≡ currency_table (currencies (s ∷ ss))
     money_new =
         let free : List ℕ = replicate 8 0 in
         ap₂ (λ (n : ℕ) (ns : List ℕ). record { count = n; numbers = ns }) (sym money_longer)

@@ -1,8 +1,8 @@
 -- Where a code or a currency stands among rising ones, by its number.
-use Rattle.std.specs.Prelude.{ℕ, zero, suc, ◌≤◌, ◌<◌, true, false, List, [], ◌∷◌, ◌≡◌, eqb, ltb, get_or}
-use Rattle.tables.specs.Numbers.{highest}
+use Rattle.std.specs.Prelude.{ℕ, zero, suc, ◌≤◌, ◌<◌, true, false, List, [], ◌∷◌, ◌≡◌, eqb, ltb, length, get_or, Option, Result, Ok, Err}
+use Rattle.std.specs.Bool.{then_some}
+use Rattle.tables.specs.Numbers.{highest, number_place}
 use Rattle.tables.specs.declared.Currencies.{Currencies}
-use Rattle.tables.specs.declared.Standing.{Standing}
 
 -- The first so many of 256 codes rise, below the highest number, which stands behind them
 pub record Searchable (codes : List ℕ) (count : ℕ) : Type 0 where
@@ -10,18 +10,25 @@ pub record Searchable (codes : List ℕ) (count : ℕ) : Type 0 where
   pub low : (i : ℕ) → i < count → get_or codes i 0 < highest
   pub rest : (i : ℕ) → count ≤ i → i < 256 → get_or codes i 0 ≡ highest
 
--- Where a currency's number stands among rising ones, or would stand, and whether it is there
-abbrev pub ranked_of : List ℕ → ℕ → Standing
-ranked_of [] own = record { rank = 0; there = false }
+-- The place of a number among numbers, where it is there
+abbrev pub found_place : List ℕ → ℕ → Option ℕ
+found_place ns n = then_some (ltb (number_place ns n) (length ns)) (number_place ns n)
+
+-- One place further on
+abbrev pub one_further : Result ℕ ℕ → Result ℕ ℕ
+one_further (Ok rank) = Ok (suc rank)
+one_further (Err rank) = Err (suc rank)
+
+-- Where a currency's number stands among rising ones, or, as an error, would stand
+abbrev pub ranked_of : List ℕ → ℕ → Result ℕ ℕ
+ranked_of [] own = Err 0
 ranked_of (n ∷ ns) own =
-    let rest = ranked_of ns own in
-    elim (eqb n own) [
-      | true ↦ record { rank = 0; there = true }
-      | false ↦ elim (ltb n own) [
-        | true ↦ record { rank = suc rest.rank; there = rest.there }
-        | false ↦ record { rank = 0; there = false }
-      ]
-    ]
+    elim (eqb n own) [ true ↦ Ok 0 | false ↦ elim (ltb n own) [ true ↦ one_further (ranked_of ns own) | false ↦ Err 0 ] ]
+
+-- The rank, whether it stands there or would
+abbrev pub rank_of : Result ℕ ℕ → ℕ
+rank_of (Ok rank) = rank
+rank_of (Err rank) = rank
 
 -- A number put into a list at a rank, the last of which falls off
 abbrev pub put_in : ℕ → ℕ → List ℕ → List ℕ

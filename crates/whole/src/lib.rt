@@ -33,7 +33,7 @@ pub fn least(
 ) -> u64
     ensures { result ≡ min a b }
 {
-    if a < b { a } else { b }
+    a.min(b)
 }
 
 // The larger of two numbers of one unit.
@@ -43,7 +43,7 @@ pub fn greatest(
 ) -> u64
     ensures { result ≡ max a b }
 {
-    if a < b { b } else { a }
+    a.max(b)
 }
 
 // A number not below zero, as a signed one.

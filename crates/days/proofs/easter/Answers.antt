@@ -12,10 +12,10 @@ moon-fits : (y : Year) (march moon : ℕ) → (2000 ≤ y) × (y ≤ 2399) → m
 moon-fits y march moon r p q = rw (p, q) (moon_below y r)
 
 pub overflow_add-moon : goal.overflow_add-moon
-overflow_add-moon c = omega (arith, moon-fits c.args.y _ _ c.requires.in_range c.day_in.ensures c.spring_moon.ensures)
+overflow_add-moon c = omega (arith, moon-fits c.args.y _ _ c.requires c.day_in.ensures c.spring_moon.ensures)
 
 pub overflow_add-next : goal.overflow_add-next
-overflow_add-next c = omega (arith, moon-fits c.args.y _ _ c.requires.in_range c.day_in.ensures c.spring_moon.ensures)
+overflow_add-next c = omega (arith, moon-fits c.args.y _ _ c.requires c.day_in.ensures c.spring_moon.ensures)
 
 pub overflow_add-result : goal.overflow_add-result
-overflow_add-result c = omega (arith, moon-fits c.args.y _ _ c.requires.in_range c.day_in.ensures c.spring_moon.ensures)
+overflow_add-result c = omega (arith, moon-fits c.args.y _ _ c.requires c.day_in.ensures c.spring_moon.ensures)

@@ -1,13 +1,9 @@
--- `days::is_closing` meets its contract: each way out rewrites with the tests that led there, each on a day that is the paper's.
-
-use Prim.Native.Nat.{◌<◌}
-use native.Mathlib.Omega.{arith}
-use mathlib.Core.Path.{subst⁻¹}
-use Rattle.paper.specs.Units.{Day}
+-- `days::is_closing` meets its contract: the day after Easter is of the 400 years and few days.
+use Rattle.std.proofs.Common.{◌<◌, arith}
 use Rattle.paper.proofs.Calendar.{easter_below}
 use Rattle.days.proofs.is_closing.Goals as goal
 
 pub overflow_add-sunday : goal.overflow_add-sunday
 overflow_add-sunday c =
-    let below = subst⁻¹ (λ (d : Day). d < 146_132) c.easter-sunday.ensures (easter_below c.args.y c.requires.in_range) in
+    let below : c.easter-sunday.result < 146_132 = rw c.easter-sunday.ensures (easter_below c.args.y c.requires) in
     omega arith

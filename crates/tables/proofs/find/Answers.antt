@@ -8,7 +8,7 @@ use mathlib.Core.Path.{◌≡◌, refl}
 use Rattle.tables.proofs.Codes.{Below, Above, none_above, quarters, found, missing}
 use Rattle.tables.proofs.find.Invariants.{Sized, all, quarter, sixteenth, four, one}
 use Rattle.tables.proofs.find.Goals as goal
-use Rattle.tables.proofs.find.Goals.{then-codes-low, else-codes-low, then-codes-low-2, else-codes-low-2, then-codes-low-3, else-codes-low-3}
+use Rattle.tables.proofs.find.Goals.{then-codes-low, else-codes-low, then-codes-low-2, else-codes-low-2, then-codes-low-3, else-codes-low-3, else-low-count-via-then-low-count+else-codes-low-4, else-low-count-via-else-low-count}
 
 -- Each but the last is four of the next
 next-size : {size : ℕ} → Sized size → 1 < size → (4 * (size / 4) ≡ size) × Sized (size / 4)
@@ -81,11 +81,15 @@ returns-then-codes-low-4 c =
     let a = c.args in
     let v = c.loop-size.invariant in
     found a.codes.now a.count a.code v.2 c.requires.0 c.requires.1 c.loop-size.low (omega (arith, some v.0)) v.3
-    (last-above a.codes.now a.code c.loop-size.low c.loop-size.size v.0 c.loop-size-test.false v.4) c.if-codes-low-4.true
+    (last-above a.codes.now a.code c.loop-size.low c.loop-size.size v.0 c.loop-size-test.false v.4) c.if-low-count.true c.if-codes-low-4.true
 
-pub returns-else-codes-low-4 : goal.returns-else-codes-low-4
-returns-else-codes-low-4 c =
+pub returns-else-low-count : goal.returns-else-low-count
+returns-else-low-count c =
     let a = c.args in
     let v = c.loop-size.invariant in
     missing a.codes.now a.count a.code v.2 c.requires.0 c.requires.1 c.loop-size.low (omega (arith, some v.0)) v.3
-    (last-above a.codes.now a.code c.loop-size.low c.loop-size.size v.0 c.loop-size-test.false v.4) c.if-codes-low-4.false
+    (last-above a.codes.now a.code c.loop-size.low c.loop-size.size v.0 c.loop-size-test.false v.4)
+    (elim c.else-low-count.branch [
+      | else-low-count-via-then-low-count+else-codes-low-4 w ↦ λ h e. w.if-codes-low-4.false e
+      | else-low-count-via-else-low-count w ↦ λ h e. absurd (omega (arith, h, w.if-low-count.false))
+    ])

@@ -1,5 +1,4 @@
--- `tables::inserted` meets its contract. The loop's invariant: putting what is moved in at `i` gives what is to be given. The
--- measure is the places left.
+-- `tables::inserted` meets its contract. The loop's invariant: putting what is moved in at `i` gives what is to be given.
 use Prim.Native.Nat.{ℕ, zero, suc, ◌≤◌}
 use native.Mathlib.Numerals.{add-one}
 use native.Mathlib.Omega.{arith}
