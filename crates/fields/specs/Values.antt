@@ -1,30 +1,10 @@
--- What stands in a field, as the code holds it: the paper's reading with the range that the rules ask for, as a plain number.
-use Rattle.std.specs.Prelude.{ℕ, Bool, true, false, cond, not, [], ◌∷◌, eqb, ℤ, pos}
+-- What stands in a field, as the code holds it: the paper's reading with the range that the rules ask for.
+use Rattle.std.specs.Prelude.{ℕ, Bool, true, false, cond, [], ◌∷◌}
 use Rattle.std.proofs.Math.Option.{Option, none, some}
 use Rattle.paper.specs.Units.{Byte, Text, Duration, Rate}
 use Rattle.paper.specs.Lists.{between, every, when, ◌>>=◌}
 use Rattle.paper.specs.Text.{same, is_digit, decimal, number_in, signed_in}
 use Rattle.paper.specs.Refusals.{is_rate}
-use Rattle.paper.specs.Signs.{above_zero}
-use Rattle.tables.specs.Numbers.{highest}
-
--- What was read; the highest number of 64 bits, which no field reads as, where nothing was
-abbrev pub or_highest : Option ℕ → ℕ
-or_highest none = highest
-or_highest (some n) = n
-
--- The same of a signed number
-abbrev pub signed_or : Option ℤ → ℤ
-signed_or none = pos 9223372036854775807
-signed_or (some z) = z
-
--- Whether anything was read
-abbrev pub is_read : ℕ → Bool
-is_read n = not (eqb n highest)
-
--- The same of a signed number
-abbrev pub is_signed_read : ℤ → Bool
-is_signed_read z = not (eqb (above_zero z) 9223372036854775807)
 
 -- Digits of any kind, leading zeros too, as the number that they mean
 abbrev pub digits_in : Text → Option ℕ

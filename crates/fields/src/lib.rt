@@ -1,293 +1,122 @@
-// What stands in a field: the bytes of a lent sheet from a place up to another.
-// A field is read by the ends of its line's fields and by its number: as a number, and as the highest one where it is nothing that
-// it may be.
+// What stands in a field: its bytes, read as a number, a rate, a date or a letter; nothing where it is nothing that it may be.
 #![tactic(auto)]
 
-ghost use Rattle.std.specs.Prelude.{◌≡◌, ◌+◌, ◌≤◌, length};
-ghost use Rattle.std.proofs.Math.Option.{none, map};
-ghost use Rattle.std.proofs.Math.Seq.{slice};
+ghost use Rattle.std.specs.Prelude.{◌≡◌, ◌≤◌, length};
+ghost use Rattle.std.proofs.Math.Option.{map};
+ghost use Rattle.answers.specs.Options.{answer};
 ghost use Rattle.paper.specs.Text.{number_in, date_in};
 ghost use Rattle.paper.specs.Rows.{kind_in};
-ghost use Rattle.paper.specs.Days.{new_years, day_of};
+ghost use Rattle.paper.specs.Days.{day_of};
 ghost use Rattle.tables.specs.Numbers.{kind_number};
-ghost use Rattle.fields.specs.Values.{or_highest, signed_or, is_read, is_signed_read, digits_in, ranged_in, rate_in, duration_in, letter_in};
-ghost use Rattle.places.specs.Places.{field_text, Stands};
+ghost use Rattle.fields.specs.Values.{digits_in, ranged_in, rate_in, duration_in, letter_in};
 
-use days::{Date, Dated, Day};
-use places::Place;
+use days::{Date, Day};
 
-// Digits as the number that they mean; at most 19, so that it fits and is not the highest, which stands for other bytes.
-// They are read by sixes, for the reason of `places::line_at`.
-fn digits_in(s: &[u8], at: Place, end: Place) -> u64
-    requires { (at ≤ end) × (end ≤ length s.now) × (end ≤ at + 19) }
-    ensures value { result ≡ or_highest (digits_in (slice at end s.now)) }
-    ensures highest { result ≡ 18446744073709551615 → digits_in (slice at end s.now) ≡ none }
+// Digits as the number that they mean; at most 19, so that it fits.
+fn digits(text: &[u8]) -> Option<u64>
+    requires { length text.now ≤ 19 }
+    ensures { result ≡ answer (digits_in text.now) }
 {
     let mut n: u64 = 0; // any unit
-    let mut i: Place = at;
-    loop {
-        let mut k: usize = 0; // bytes of the six
-        while k < 6 {
-            if end <= i {
-                return n;
-            }
-            let b = s[i]; // a byte
-            if !codes::is_within(b, 48, 57) {
-                return 18446744073709551615;
-            }
-            n = 10 * n + (b as u64 - 48);
-            i += 1;
-            k += 1;
+    for &b in text {
+        if !b.is_ascii_digit() {
+            return None;
         }
+        n = 10 * n + u64::from(b - b'0');
     }
+    Some(n)
 }
 
 // A number: digits with no leading zero.
-fn number_in(s: &[u8], at: Place, end: Place) -> u64
-    requires { (at ≤ end) × (end ≤ length s.now) }
-    ensures { result ≡ or_highest (number_in (slice at end s.now)) }
+fn plain(text: &[u8]) -> Option<u64>
+    ensures { result ≡ answer (number_in text.now) }
 {
-    let size = end - at; // bytes
-    if size == 0 {
-        return 18446744073709551615;
+    if text.is_empty() || 19 < text.len() {
+        return None;
     }
-    if 19 < size {
-        return 18446744073709551615;
+    if 1 < text.len() && text[0] == b'0' {
+        return None;
     }
-    if 1 < size {
-        if s[at] == 48 {
-            return 18446744073709551615;
-        }
-    }
-    digits_in(s, at, end)
+    digits(text)
 }
-
-// A number from a lowest to a highest. What stands for no number stays that, in range or not.
-pub fn ranged_in(
-    s: &[u8],
-    at: Place,
-    end: Place,
-    lowest: u64, // the field's unit
-    highest: u64, // the field's unit
-) -> u64
-    requires { (at ≤ end) × (end ≤ length s.now) }
-    ensures { result ≡ or_highest (ranged_in lowest highest (slice at end s.now)) }
-{
-    let n = number_in(s, at, end); // the field's unit
-    if (lowest <= n) & (n <= highest) {
-        n
-    } else {
-        18446744073709551615
-    }
-}
-
-// A rate: a number in its range that may have `-` before it.
-fn rate_in(s: &[u8], at: Place, end: Place) -> i64
-    requires { (at ≤ end) × (end ≤ length s.now) }
-    ensures { result ≡ signed_or (rate_in (slice at end s.now)) }
-{
-    if end == at {
-        return 9223372036854775807;
-    }
-    if s[at] == 45 {
-        let n = ranged_in(s, at + 1, end, 1, 200_000); // ten-thousandths of a percent
-        if n == 18446744073709551615 {
-            return 9223372036854775807;
-        }
-        whole::negative(n)
-    } else {
-        let n = ranged_in(s, at, end, 0, 200_000); // ten-thousandths of a percent
-        if n == 18446744073709551615 {
-            return 9223372036854775807;
-        }
-        whole::positive(n)
-    }
-}
-
-// A border or duration, ten-thousandths of a year: a number for a kind that has one, blank for a kind that has none.
-fn duration_in(s: &[u8], at: Place, end: Place, has: bool) -> u64
-    requires { (at ≤ end) × (end ≤ length s.now) }
-    ensures { result ≡ or_highest (duration_in has (slice at end s.now)) }
-{
-    if has {
-        return ranged_in(s, at, end, 1, 1_000_000);
-    }
-    if end == at { 0 } else { 18446744073709551615 }
-}
-
-// A date's eight digits; 0, which is no date, for anything else.
-fn date_in(s: &[u8], at: Place, end: Place) -> Date
-    requires { (at ≤ end) × (end ≤ length s.now) }
-    ensures { result ≡ date_in (slice at end s.now) }
-{
-    if end - at != 8 {
-        return 0;
-    }
-    let n = digits_in(s, at, end); // eight digits as one number
-    if n == 18446744073709551615 {
-        return 0;
-    }
-    n
-}
-
-// A kind's number by its letter: 0 government, 1 corporate, 2 inflation linked, 3 floating.
-fn kind_in(s: &[u8], at: Place, end: Place) -> u64
-    requires { (at ≤ end) × (end ≤ length s.now) }
-    ensures { result ≡ or_highest (map kind_number (kind_in (slice at end s.now))) }
-{
-    if end - at != 1 {
-        return 18446744073709551615;
-    }
-    let b = s[at]; // a byte
-    if b == 71 {
-        return 0;
-    }
-    if b == 67 {
-        return 1;
-    }
-    if b == 73 {
-        return 2;
-    }
-    if b == 70 {
-        return 3;
-    }
-    18446744073709551615
-}
-
-// One of two letters by its number: 0 the first, 1 the second.
-fn letter_in(
-    s: &[u8],
-    at: Place,
-    end: Place,
-    zero: u8, // a byte
-    one: u8, // a byte
-) -> u64
-    requires { (at ≤ end) × (end ≤ length s.now) }
-    ensures { result ≡ or_highest (letter_in zero one (slice at end s.now)) }
-{
-    if end - at != 1 {
-        return 18446744073709551615;
-    }
-    let b = s[at]; // a byte
-    if b == zero {
-        return 0;
-    }
-    if b == one {
-        return 1;
-    }
-    18446744073709551615
-}
-
-// ---- fields by the ends of their line. `k` is how many fields stand before one, with the letter.
 
 // A number from a lowest to a highest.
-pub fn number_at(
-    s: &[u8],
-    ends: &[Place; 10],
-    k: usize, // fields behind the letter
+pub fn number(
+    text: &[u8],
     lowest: u64, // the field's unit
     highest: u64, // the field's unit
-) -> u64
-    requires { Stands s.now ends.now k }
-    ensures { result ≡ or_highest (ranged_in lowest highest (field_text s.now ends.now k)) }
+) -> Option<u64>
+    ensures { result ≡ answer (ranged_in lowest highest text.now) }
 {
-    ranged_in(s, ends[k] + 1, ends[k + 1], lowest, highest)
+    let n = plain(text)?; // the field's unit
+    ((lowest <= n) & (n <= highest)).then_some(n)
 }
 
-// A rate, ten-thousandths of a percent; the highest signed number where it is none.
-pub fn rate_at(
-    s: &[u8],
-    ends: &[Place; 10],
-    k: usize, // fields behind the letter
-) -> i64
-    requires { Stands s.now ends.now k }
-    ensures { result ≡ signed_or (rate_in (field_text s.now ends.now k)) }
+// A rate, ten-thousandths of a percent: a number in its range that may have `-` before it.
+pub fn rate(text: &[u8]) -> Option<i64>
+    ensures { result ≡ answer (rate_in text.now) }
 {
-    rate_in(s, ends[k] + 1, ends[k + 1])
+    match text {
+        [b'-', size @ ..] => Some(whole::negative(number(size, 1, 200_000)?)),
+        _ => Some(whole::positive(number(text, 0, 200_000)?)),
+    }
 }
 
 // A border or duration, ten-thousandths of a year, for a kind that has one; 0 for a blank one of a kind that has none.
-pub fn duration_at(
-    s: &[u8],
-    ends: &[Place; 10],
-    k: usize, // fields behind the letter
-    has: bool,
-) -> u64
-    requires { Stands s.now ends.now k }
-    ensures { result ≡ or_highest (duration_in has (field_text s.now ends.now k)) }
+pub fn duration(text: &[u8], has: bool) -> Option<u64>
+    ensures { result ≡ answer (duration_in has text.now) }
 {
-    duration_in(s, ends[k] + 1, ends[k + 1], has)
+    if has {
+        number(text, 1, 1_000_000)
+    } else {
+        text.is_empty().then_some(0)
+    }
 }
 
-// A date; 0 where it is none.
-pub fn date_at(
-    s: &[u8],
-    ends: &[Place; 10],
-    k: usize, // fields behind the letter
-) -> Date
-    requires { Stands s.now ends.now k }
-    ensures { result ≡ date_in (field_text s.now ends.now k) }
+// A date's eight digits; 0, which is no date, for anything else.
+pub fn date(text: &[u8]) -> Date
+    ensures { result ≡ date_in text.now }
 {
-    date_in(s, ends[k] + 1, ends[k + 1])
+    if text.len() != 8 {
+        return 0;
+    }
+    digits(text).unwrap_or(0)
 }
 
-// The day of a date. `years` is what `days::new_years` gives.
-pub fn day_at(
-    s: &[u8],
-    years: &[Day; 400],
-    ends: &[Place; 10],
-    k: usize, // fields behind the letter
-) -> Day
-    requires stands { Stands s.now ends.now k }
-    requires table { years.now ≡ new_years }
-    ensures { result ≡ or_highest (day_of (date_in (field_text s.now ends.now k))) }
+// The day of a date.
+pub fn day(text: &[u8]) -> Option<Day>
+    ensures { result ≡ answer (day_of (date_in text.now)) }
 {
-    let Dated::Day(day) = days::day_of(years, date_at(s, ends, k)) else {
-        return 18446744073709551615;
-    };
-    day
+    days::day_of(date(text))
 }
 
-// A kind by its number.
-pub fn kind_at(
-    s: &[u8],
-    ends: &[Place; 10],
-    k: usize, // fields behind the letter
-) -> u64
-    requires { Stands s.now ends.now k }
-    ensures { result ≡ or_highest (map kind_number (kind_in (field_text s.now ends.now k))) }
+// A kind's number by its letter: 0 government, 1 corporate, 2 inflation linked, 3 floating.
+pub fn kind(text: &[u8]) -> Option<u64>
+    ensures { result ≡ answer (map kind_number (kind_in text.now)) }
 {
-    kind_in(s, ends[k] + 1, ends[k + 1])
+    match text {
+        [b'G'] => Some(0),
+        [b'C'] => Some(1),
+        [b'I'] => Some(2),
+        [b'F'] => Some(3),
+        _ => None,
+    }
 }
 
-// One of two letters by its number.
-pub fn letter_at(
-    s: &[u8],
-    ends: &[Place; 10],
-    k: usize, // fields behind the letter
+// One of two letters by its number: 0 the first, 1 the second.
+pub fn letter(
+    text: &[u8],
     zero: u8, // a byte
     one: u8, // a byte
-) -> u64
-    requires { Stands s.now ends.now k }
-    ensures { result ≡ or_highest (letter_in zero one (field_text s.now ends.now k)) }
+) -> Option<u64>
+    ensures { result ≡ answer (letter_in zero one text.now) }
 {
-    letter_in(s, ends[k] + 1, ends[k + 1], zero, one)
-}
-
-// Whether a field read as anything that it may be.
-pub fn is_read(
-    n: u64, // the field's unit
-) -> bool
-    ensures { result ≡ is_read n }
-{
-    n != 18446744073709551615
-}
-
-// The same of a rate.
-pub fn is_rate(
-    r: i64, // ten-thousandths of a percent
-) -> bool
-    ensures { result ≡ is_signed_read r }
-{
-    whole::above_zero(r) != 9223372036854775807
+    let &[b] = text else { // a byte
+        return None;
+    };
+    if b == zero {
+        Some(0)
+    } else {
+        (b == one).then_some(1)
+    }
 }

@@ -257,7 +257,8 @@ pub fn ranked(
     let mut rank: usize = 0; // currencies before it
     let mut more: usize = 1; // 1 while all so far come before it, then 0
     for (i, &number) in numbers.iter().enumerate() {
-        more = if i < count && number < own { more } else { 0 };
+        let known = if i < count { number } else { own };
+        more = if known < own { more } else { 0 };
         rank += more;
     }
     if rank < count && numbers[rank] == own {
