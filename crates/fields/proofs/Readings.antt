@@ -1,23 +1,14 @@
--- What a reading tells: a number that was read in a range is in it, and trades and sides are two letters each.
-use Prim.Native.Nat.{ℕ, ◌≤◌}
+-- Trades and sides as fields of one of two letters.
+use Prim.Native.Nat.{ℕ}
 use mathlib.Core.Bool.{Bool, true, false, cond}
 use mathlib.Core.List.{[], ◌∷◌}
-use mathlib.Core.Option.{Option, none, some, map}
+use mathlib.Core.Option.{none, some, map}
 use mathlib.Core.Path.{◌≡◌, refl}
 use Rattle.paper.specs.Units.{Text}
-use Rattle.paper.specs.Lists.{between, when}
-use Rattle.paper.specs.Text.{same, number_in}
+use Rattle.paper.specs.Text.{same}
 use Rattle.paper.specs.Rows.{repo, cash, trade_in, seller, purchaser, side_in}
-use Rattle.paper.proofs.Lists.{bind_some, when_some, bounds}
 use Rattle.tables.specs.Numbers.{trade_number, side_number}
-use Rattle.fields.specs.Values.{ranged_in, letter_in}
-
--- What is read in a range is in it
-pub ranged_bounds : (lowest most : ℕ) (t : Text) (n : ℕ) → ranged_in lowest most t ≡ some n → (lowest ≤ n) × (n ≤ most)
-ranged_bounds lowest most t n e =
-    let k = bind_some (number_in t) (λ m. when (between lowest most m) m) n e in
-    let w = when_some (between lowest most k.0) k.0 n k.2 in
-    rw w.1 at (bounds lowest most k.0 w.0)
+use Rattle.fields.specs.Values.{letter_in}
 
 -- Trades and sides are two letters each
 module _ {A : Type 0} (number : A → ℕ) (zeroth first : A) where

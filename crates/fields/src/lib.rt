@@ -56,9 +56,13 @@ pub fn number(
 pub fn rate(text: &[u8]) -> Option<i64>
     ensures { result ≡ answer (rate_in text.now) }
 {
-    match text {
-        [b'-', size @ ..] => Some(whole::negative(number(size, 1, 200_000)?)),
-        _ => Some(whole::positive(number(text, 0, 200_000)?)),
+    let [first, rest @ ..] = text else { // a byte, and those behind it
+        return None;
+    };
+    if *first == b'-' {
+        Some(whole::negative(number(rest, 1, 200_000)?))
+    } else {
+        Some(whole::positive(number(text, 0, 200_000)?))
     }
 }
 

@@ -6,7 +6,7 @@ use native.Mathlib.Omega.{arith}
 use mathlib.Core.Bool.{Bool, true, false, cond, ◌&&◌}
 use mathlib.Core.List.{[], ◌∷◌}
 use mathlib.Core.Option
-use mathlib.Core.Option.{Option, none, some, map}
+use mathlib.Core.Option.{Option, none, some, some-injective, map}
 use mathlib.Core.Path.{◌≡◌, refl, sym, ap, ◌∙◌}
 use borrow.Author.Tests.{eq-eqb, ne_eqb, le-leb}
 use lib.Dec.{leb, ltb}
@@ -27,7 +27,7 @@ use Rattle.answers.specs.Refusals.{refusal}
 use Rattle.answers.specs.declared.Refusal.{Refusal}
 use Rattle.sections.specs.Sections.{fields_at, shaped, read_as}
 use Rattle.std.proofs.Common as answers
-use Rattle.std.proofs.Common.{Result, Ok, Err, Some, None}
+use Rattle.std.proofs.Common.{Result, Ok, Err, Some, None, ok_or}
 
 -- ---- the line
 
@@ -147,6 +147,84 @@ module _ {R H : Type 0} (held : R → H) (next : Place) (kind : RowKind R) (fs :
       go none e = cc
       go (some r) e = let same : h ≡ held r = cc in ap (λ (h : H). Ok (h, next)) same
 
+  -- So it is what is handed on of them
+  pub fields_refused : {f : Refusal} → ok_or read (refusal 6) ≡ Err f → Err f ≡ read_as held next (shaped kind fs)
+  fields_refused {f} = go read refl
+    where
+      go : (o : answers.Option H) → read ≡ o → ok_or o (refusal 6) ≡ Err f → Err f ≡ read_as held next (shaped kind fs)
+      go None n e = let same : refusal 6 ≡ f = cc in rw (sym same) (fields_none n)
+      go (Some h) n e = cc
+
+  pub fields_taken : {h : H} → ok_or read (refusal 6) ≡ Ok h → Ok (h, next) ≡ read_as held next (shaped kind fs)
+  fields_taken {h} = go read refl
+    where
+      go : (o : answers.Option H) → read ≡ o → ok_or o (refusal 6) ≡ Ok h → Ok (h, next) ≡ read_as held next (shaped kind fs)
+      go None n e = cc
+      go (Some g) n e = let same : g ≡ h = cc in fields_some (n ∙ ap (λ (h : H). Some h) same)
+
+-- The same where rule 7 is another: it is the row of what the fields give and of what the dates do
+module _ {R H A D : Type 0} (held : R → H) (next : Place) (kind : RowKind R) (fs : Fields) (dates : A → Option D) (whole : A → D → H) where
+  -- What the row is by its dates
+  abbrev seventh : A → Option D → Result (H × Place) Refusal
+  seventh a none = Err (refusal 7)
+  seventh a (some d) = Ok (whole a d, next)
+
+  -- ... and by its fields
+  abbrev pub by_fields : Option A → Result (H × Place) Refusal
+  by_fields none = Err (refusal 6)
+  by_fields (some a) = seventh a (dates a)
+
+  module _ (many : length fs ≡ kind.many) (six seven : R → Bool) (own : (r : R) → kind.own r ≡ (6, six r) ∷ (7, seven r) ∷ [])
+      (part : R → A) (dated : (r : R) → kind.read fs ≡ some r → when (seven r) (held r) ≡ map (whole (part r)) (dates (part r))) where
+    pub by_dates : read_as held next (shaped kind fs) ≡ by_fields (map part (kind.read fs >>= λ r. when (six r) r))
+    by_dates = two_rules held next kind fs many six seven own ∙ go (kind.read fs) refl
+      where
+        last : (r : R) (b : Bool) (o : Option D) → when b (held r) ≡ map (whole (part r)) o
+            → cond {A = Result (H × Place) Refusal} b (Ok (held r, next)) (Err (refusal 7)) ≡ seventh (part r) o
+        last r true none e = cc
+        last r true (some d) e = ap (λ (h : H). Ok (h, next)) (some-injective (held r) (whole (part r) d) e)
+        last r false none e = refl
+        last r false (some d) e = cc
+
+        go : (o : Option R) → kind.read fs ≡ o
+            → sixth held next kind fs (λ r. cond (seven r) (Ok (held r, next)) (Err (refusal 7))) (o >>= λ r. when (six r) r)
+            ≡ by_fields (map part (o >>= λ r. when (six r) r))
+        go none e = refl
+        go (some r) e = test (six r)
+          where
+            test : (b : Bool) → sixth held next kind fs (λ r. cond (seven r) (Ok (held r, next)) (Err (refusal 7))) (when b r) ≡ by_fields (map part (when b r))
+            test true = last r (seven r) (dates (part r)) (dated r e)
+            test false = refl
+
+  -- Nothing: the row is refused 6
+  pub dated_none : (o : Option A) {read : answers.Option A} → read ≡ answer o → {f : Refusal} → ok_or read (refusal 6) ≡ Err f → Err f ≡ by_fields o
+  dated_none none reads {f} e = let same : refusal 6 ≡ f = cc in ap (λ (f : Refusal). Err f) (sym same)
+  dated_none (some a) reads e = cc
+
+  -- No dates: it is refused 7
+  pub dated_refused : (o : Option A) {read : answers.Option A} → read ≡ answer o → {a : A} → ok_or read (refusal 6) ≡ Ok a
+      → {days : answers.Option D} → days ≡ answer (dates a) → {f : Refusal} → ok_or days (refusal 7) ≡ Err f → Err f ≡ by_fields o
+  dated_refused none reads e given_days k = cc
+  dated_refused (some b) reads {a} e given_days {f} k =
+      let same : a ≡ b = cc in
+      rw (sym same) (go (dates a) (rw (sym given_days) k))
+    where
+      go : (o : Option D) → ok_or (answer o) (refusal 7) ≡ Err f → Err f ≡ seventh a o
+      go none e = let same : refusal 7 ≡ f = cc in ap (λ (f : Refusal). Err f) (sym same)
+      go (some d) e = cc
+
+  -- or the row
+  pub dated_taken : (o : Option A) {read : answers.Option A} → read ≡ answer o → {a : A} → ok_or read (refusal 6) ≡ Ok a
+      → {days : answers.Option D} → days ≡ answer (dates a) → {d : D} → ok_or days (refusal 7) ≡ Ok d → Ok (whole a d, next) ≡ by_fields o
+  dated_taken none reads e given_days k = cc
+  dated_taken (some b) reads {a} e given_days {d} k =
+      let same : a ≡ b = cc in
+      rw (sym same) (go (dates a) (rw (sym given_days) k))
+    where
+      go : (o : Option D) → ok_or (answer o) (refusal 7) ≡ Ok d → Ok (whole a d, next) ≡ seventh a o
+      go none e = cc
+      go (some c) e = let same : d ≡ c = cc in ap (λ (d : D). Ok (whole a d, next)) same
+
 -- ---- a border or duration
 
 -- A blank is no number
@@ -227,22 +305,19 @@ module _ {R A : Type 0} (end : Option R → Option A) (ends : end none ≡ none)
 abbrev pub spanned : ℕ → Option Day → Option Day → Option (Day × Day)
 spanned most p q = p >>= λ a. q >>= λ b. when (between 1 most (b - a)) (a, b)
 
-pub following : {A : Type 0} (most : ℕ) (first last : Date) (then : Day → Day → A) (other : A)
-    → cond (follows most first last) (then (day first) (day last)) other
-    ≡ elim (spanned most (day_of first) (day_of last)) [ none ↦ other | some s ↦ then s.0 s.1 ]
-following most first last then other = go (day_of first) (day_of last)
+-- ... are there where the second date follows the first
+pub following : {A : Type 0} (most : ℕ) (first last : Date) (then : Day → Day → A)
+    → when (follows most first last) (then (day first) (day last)) ≡ map (λ s. then s.0 s.1) (spanned most (day_of first) (day_of last))
+following {A} most first last then = go (day_of first) (day_of last)
   where
     go : (p q : Option Day)
-        → cond (given p && given q && between 1 most (Option.get_or q 0 - Option.get_or p 0)) (then (Option.get_or p 0) (Option.get_or q 0)) other
-        ≡ elim (spanned most p q) [ none ↦ other | some s ↦ then s.0 s.1 ]
+        → when (given p && given q && between 1 most (Option.get_or q 0 - Option.get_or p 0)) (then (Option.get_or p 0) (Option.get_or q 0))
+        ≡ map (λ (s : Day × Day). then s.0 s.1) (spanned most p q)
     go none none = refl
     go none (some b) = refl
     go (some a) none = refl
     go (some a) (some b) = test (between 1 most (b - a))
       where
-        held : Bool → Option (Day × Day)
-        held t = when t (a, b)
-
-        test : (t : Bool) → cond t (then a b) other ≡ elim (held t) [ none ↦ other | some s ↦ then s.0 s.1 ]
+        test : (t : Bool) → when t (then a b) ≡ map (λ (s : Day × Day). then s.0 s.1) (when t (a, b))
         test true = refl
         test false = refl

@@ -22,7 +22,7 @@ use Rattle.answers.specs.declared.Refusal.{Refusal}
 use Rattle.answers.specs.declared.Refused.{Refused}
 use Rattle.sections.specs.Sections.{fields_at, goes_on, shaped, broken, read_as}
 use Rattle.sections.proofs.Loops as loops
-use Rattle.sections.proofs.Loops.{Kept, Going, going_start, going_ended, line_refused, LineRow, line_row, result_refused, result_ended}
+use Rattle.sections.proofs.Loops.{Kept, none_kept, more_kept, Going, going_start, going_ended, line_refused, LineRow, line_row, result_refused, result_ended}
 
 -- What a section's room has: its row kind, with its letter as a byte; how a row of the line at a place is held; and how it is kept in
 -- a table of so many places
@@ -122,12 +122,21 @@ refusal_none none e = refl
 refusal_none (some n) e = cc
 
 module _ {R H K T Z : Type 0} {room : Room R H K T} (judge : Judge room Z) where
+  -- Rows that keep the rules
+  kept_most : {above : List R} → Kept room.kind above → length above ≤ room.most
+  kept_most none_kept = omega arith
+  kept_most (more_kept h kept) = judge.few (more_kept h kept)
+
   -- After so many rows, with what is kept of them
   pub record Judging (sheet : Text) (from : Place) (first : Line) (rows : List K) (count : ℕ) (at : Place) (seen : Z) : Type 0 where
     pub turn : Turn room sheet from first rows count at
     pub seen_is : seen ≡ judge.tell turn.above
 
   module _ {sheet : Text} {from : Place} {first : Line} {rows : List K} {count : ℕ} {at : Place} {seen : Z} (t : Judging sheet from first rows count at seen) where
+    -- No more than there is room for
+    pub judging_most : count ≤ room.most
+    judging_most = omega (arith, t.turn.going.counted, kept_most t.turn.going.kept)
+
     -- A row that was read, and what becomes of it as it is judged
     pub record Taken (h : H) (next : Place) : Type 0 where
       pub row_is : R

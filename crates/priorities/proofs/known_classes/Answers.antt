@@ -9,7 +9,7 @@ use mathlib.Core.Path.{◌≡◌, refl, sym, ap, ap₂, ◌∙◌}
 use borrow.Author.Tests.{eq-eqb, ne_eqb}
 use lib.Dec.{eqb}
 use lib.ListN.{length, get_or, take, set}
-use lib.Seq.{length-take-le, take-suc, get_or-take}
+use lib.Seq.{take-suc}
 use Rattle.paper.specs.Lists.{between, every, first_that}
 use Rattle.paper.specs.Rows as paper
 use Rattle.paper.specs.Refusals.{has_class}
@@ -18,6 +18,7 @@ use Rattle.tables.specs.Held.{no_class}
 use Rattle.tables.specs.Back.{paper_class}
 use Rattle.tables.specs.declared.ClassRow.{ClassRow}
 use Rattle.priorities.specs.Known.{known_from, known_of}
+use Rattle.std.proofs.lemmas.List.{take_all}
 use Rattle.priorities.proofs.known_classes.Goals as goal
 
 -- A row more: its own class has a row, and any other has one where it had one
@@ -53,30 +54,32 @@ module _ (c : paper.ClassRow) where
   known_more (suc many) first (suc k) cs e =
       ap₂ (λ (b : Bool) (l : List Bool). b ∷ l) (sym (has_other cs first (λ d. omega arith))) (known_more many (suc first) k cs (omega arith))
 
--- A row of the table more
-known_row : (rows : List ClassRow) → length rows ≡ 40 → (i : ℕ) → i < 40 → (known : List Bool) → known ≡ known_of (map paper_class (take i rows))
+-- A row more
+known_row : (rows : List ClassRow) (i : ℕ) → i < length rows → (known : List Bool) → known ≡ known_of (map paper_class (take i rows))
+    → (get_or rows i no_class).class ≤ 40
     → set known (get_or rows i no_class).class true ≡ known_of (map paper_class (take (i + 1) rows))
-known_row rows size i h known e =
+known_row rows i h known e low =
     let c = get_or rows i no_class in
     let front : map paper_class (take i rows) ++ (paper_class c ∷ []) ≡ map paper_class (take (i + 1) rows) =
-    sym (map-append paper_class (take i rows) (c ∷ [])) ∙ ap (map paper_class) (sym (take-suc rows i no_class (omega arith)) ∙ ap (λ (n : ℕ). take n rows) (sym (add-one i))) in
+    sym (map-append paper_class (take i rows) (c ∷ [])) ∙ ap (map paper_class) (sym (take-suc rows i no_class h) ∙ ap (λ (n : ℕ). take n rows) (sym (add-one i))) in
     ap (λ (l : List Bool). set l c.class true) e
     ∙ known_more (paper_class c) 41 0 c.class (map paper_class (take i rows)) (omega arith)
     ∙ ap known_of front
 
--- The class of one of the first rows of a table whose classes are 1 to 40 is at most 40
-low : (rows : List ClassRow) (count i : ℕ) → length rows ≡ 40 → count ≤ 40 → i < count → every (λ (r : ClassRow). between 1 40 r.class) (take count rows) ≡ true
+-- The class of a row of a table whose classes are 1 to 40 is at most 40
+low : (rows : List ClassRow) (i : ℕ) → i < length rows → every (λ (r : ClassRow). between 1 40 r.class) rows ≡ true
     → (get_or rows i no_class).class ≤ 40
-low rows count i size few h ranged =
-    (bounds 1 40 (get_or rows i no_class).class
-    (ap (λ (r : ClassRow). between 1 40 r.class) (sym (get_or-take count rows i no_class h))
-    ∙ every_at (λ r. between 1 40 r.class) (take count rows) no_class ranged i
-    (omega (arith, length-take-le count rows (omega arith))))).1
+low rows i h ranged = (bounds 1 40 (get_or rows i no_class).class (every_at (λ r. between 1 40 r.class) rows no_class ranged i h)).1
 
-pub loop-i-preserved : goal.loop-i-preserved
-loop-i-preserved c =
-    (omega arith, known_row c.args.classes.rows (omega arith) c.loop-i.i (omega arith) c.loop-i.known c.loop-i.invariant.1)
+pub loop-row-init : goal.loop-row-init
+loop-row-init c = refl
 
-pub bounds-known-class : goal.bounds-known-class
-bounds-known-class c =
-    omega (arith, low c.args.classes.rows c.args.classes.count c.loop-i.i (omega arith) c.requires.0 c.loop-i-test.true c.requires.1)
+pub bounds-known-row : goal.bounds-known-row
+bounds-known-row c = omega (arith, low _ _ c.loop-row-test.true c.requires.1)
+
+pub loop-row-preserved : goal.loop-row-preserved
+loop-row-preserved c =
+    known_row _ _ c.loop-row-test.true c.loop-row.known c.loop-row.invariant (low _ _ c.loop-row-test.true c.requires.1)
+
+pub returns : goal.returns
+returns c = c.loop-row.invariant ∙ ap (λ (rows : List ClassRow). known_of (map paper_class rows)) (take_all _ _ c.loop-row-test.false)

@@ -10,7 +10,7 @@ use Rattle.priorities.proofs.Turns.{judge}
 use Rattle.priorities.proofs.priority_section.Given as goal
 
 abbrev pub invariant-loop-known : goal.invariant-loop-known
-invariant-loop-known l = (cs : List ClassRow) → l.known ≡ known_of cs → Judging (judge cs) l.s l.from l.rows l.count l.at l.known
+invariant-loop-known l = (cs : List ClassRow) → l.known ≡ known_of cs → Judging (judge cs) l.s l.from l.first l.table.rows l.table.count l.at l.known
 
 abbrev pub decreases-loop-known : goal.decreases-loop-known
 decreases-loop-known l = l.end - l.at
