@@ -8,9 +8,11 @@ ghost use Rattle.codes.specs.Counts.{checked_in, code_in, currency_in};
 
 use tables::{Code, Money};
 
-type Counts = u16; // what digits count, in two numbers, the second times 256: the last of them once, and doubled
+// What digits count, in two numbers, the second times 256: the last of them once, and doubled. Held apart, they were measured to be
+// slower (docs/DECISIONS.md, "Codes").
+type Counts = u16;
 
-// What a byte of a code counts (02, b), from `0` to `Z`; 0xffff for a byte that no code has.
+// What a byte of a code counts (02, b), from `0` to `Z`; 0xffff for a byte that no code has, as `counts_table` says.
 static COUNTS: [Counts; 43] = [
     0x0000, 0x0201, 0x0402, 0x0603, 0x0804, 0x0105, 0x0306, 0x0507, 0x0708, 0x0909, 0xffff, 0xffff,
     0xffff, 0xffff, 0xffff, 0xffff, 0xffff, 0x0102, 0x0303, 0x0504, 0x0705, 0x0906, 0x0207, 0x0408,

@@ -77,7 +77,7 @@ pub fn duration(text: &[u8], has: bool) -> Option<u64>
     }
 }
 
-// A date's eight digits; 0, which is no date, for anything else.
+// A date's eight digits; 0, which is no date, for anything else, as `date_in` says.
 pub fn date(text: &[u8]) -> Date
     ensures { result ≡ date_in text.now }
 {
@@ -94,7 +94,7 @@ pub fn day(text: &[u8]) -> Option<Day>
     days::day_of(date(text))
 }
 
-// A kind's number by its letter: 0 government, 1 corporate, 2 inflation linked, 3 floating.
+// A kind by its letter, as the number that `kind_number` has for it: 0 government, 1 corporate, 2 inflation linked, 3 floating.
 pub fn kind(text: &[u8]) -> Option<u64>
     ensures { result ≡ answer (map kind_number (kind_in text.now)) }
 {

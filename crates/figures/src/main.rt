@@ -3,11 +3,10 @@
 #![tactic(auto)]
 
 ghost use Rattle.std.specs.Prelude.{◌≤◌, length, IfOk};
-ghost use Rattle.io.specs.Counts.{IsPrefixLen};
 
-use std::env::{Env, FillError};
+use std::env::Env;
 use std::fs::Files;
-use std::io::{Print, Read};
+use std::io::Print;
 use std::{fs, io, str};
 
 // What was run, and whether the kit gave what is expected.
@@ -20,58 +19,17 @@ fn say(rt: &impl Print, name: &[u8], same: bool) -> io::Result<()> {
     }
 }
 
-// Puts an argument at the start of the buffer and gives its length, 0 where it is missing or longer than the buffer.
-fn argument(
-    rt: &impl Env,
-    place: usize, // among the arguments; that of the program's name is 0
-    text: &mut [u8],
-) -> usize
-    ensures { result ≤ length text.new }
-{
-    match rt.arg(place, text) {
-        Ok(size) => size,
-        Err(_) => 0,
-    }
-}
-
-// Whether there is an argument at a place.
-fn has_argument(
-    rt: &impl Env,
-    place: usize, // among the arguments; that of the program's name is 0
-) -> bool {
-    let mut first = [0u8; 1];
-    match rt.arg(place, &mut first) {
-        Err(FillError::NotPresent) => false,
-        _ => true,
-    }
-}
-
-// Reads until the buffer is full or the input ends, and gives how many bytes it put at the buffer's start.
-fn read_full(input: &mut impl Read, text: &mut [u8]) -> io::Result<usize>
-    ensures { IfOk result (λ size. IsPrefixLen size text.new) }
-{
-    let mut size: usize = 0; // bytes read
-    while size < text.len() {
-        let more = input.read(&mut text[size..])?; // bytes
-        if more == 0 {
-            break;
-        }
-        size += more;
-    }
-    Ok(size)
-}
-
-// A file, as far as there is room; gives how many bytes it has, 0 where it cannot be opened.
-fn read_file(rt: &impl Files, name: &[u8], text: &mut [u8]) -> io::Result<usize>
-    ensures { IfOk result (λ size. IsPrefixLen size text.new) }
+// What stands in a file, as far as there is room; nothing where it cannot be opened.
+fn read_file<'a>(rt: &impl Files, name: &[u8], room: &'a mut [u8]) -> io::Result<&'a [u8]>
+    ensures { IfOk result (λ text. length text.now ≤ length room.old) }
 {
     let Ok(path) = str::from_utf8(name) else {
-        return Ok(0);
+        return Ok(&[]);
     };
     let Ok(mut file) = fs::open(rt, path) else {
-        return Ok(0);
+        return Ok(&[]);
     };
-    read_full(&mut file, text)
+    given::read_full(&mut file, room)
 }
 
 // Whether the report of a sheet is the text in the file at a place among the arguments.
@@ -81,13 +39,13 @@ fn is_shown(
     text_place: usize, // among the arguments
     full: bool, // or quiet
 ) -> io::Result<bool> {
-    let mut name = [0u8; 4096];
-    let mut text = [0u8; 32768];
+    let mut name_room = [0u8; 4096];
+    let mut text_room = [0u8; 32768];
     let mut out = [0u8; 32768];
-    let letters = argument(rt, text_place, &mut name); // bytes
-    let expected = read_file(rt, &name[..letters], &mut text)?; // bytes
+    let name = given::word(rt.arg(text_place, &mut name_room), &name_room);
+    let expected = read_file(rt, name, &mut text_room)?;
     let shown = shown::show(sheet, &mut out, full); // bytes
-    Ok(check::same(&out[..shown], &text[..expected]))
+    Ok(&out[..shown] == expected)
 }
 
 // One case, by the place of the first of its three files among the arguments.
@@ -97,20 +55,20 @@ fn run_case(
 ) -> io::Result<()>
     requires { place ≤ 3_000 }
 {
-    let mut name = [0u8; 4096];
-    let mut sheet = [0u8; 65537];
-    let letters = argument(rt, place, &mut name); // bytes
-    let size = read_file(rt, &name[..letters], &mut sheet)?; // bytes
-    let quiet = is_shown(rt, &sheet[..size], place + 1, false)?;
-    let full = is_shown(rt, &sheet[..size], place + 2, true)?;
-    say(rt, &name[..letters], quiet & full)
+    let mut name_room = [0u8; 4096];
+    let mut sheet_room = [0u8; 65537];
+    let name = given::word(rt.arg(place, &mut name_room), &name_room);
+    let sheet = read_file(rt, name, &mut sheet_room)?;
+    let quiet = is_shown(rt, sheet, place + 1, false)?;
+    let full = is_shown(rt, sheet, place + 2, true)?;
+    say(rt, name, quiet & full)
 }
 
 // Whether the entries of both listings refuse a sheet with this number.
 fn both_refuse(
     sheet: &[u8],
     out: &mut [u8],
-    number: u64, // 65,536 × refusal + line
+    number: u64, // 65,536 × refusal + line, as the entries give it, for C
 ) -> bool {
     let quiet = kit::brm_margin(sheet, out); // bytes, or a refusal's number
     let full = kit::brm_margin_full(sheet, out); // bytes, or a refusal's number
@@ -136,9 +94,10 @@ fn main(rt: HostRuntime) -> io::Result<()> {
     run_sizes(&rt)?;
     for case in 0..1000 {
         let place: usize = 3 * case + 1; // among the arguments
-        if has_argument(&rt, place + 2) {
-            run_case(&rt, place)?;
+        if !given::is_there(rt.arg(place + 2, &mut [0])) {
+            break;
         }
+        run_case(&rt, place)?;
     }
     Ok(())
 }

@@ -2,144 +2,28 @@
 // Each function gives the place behind what it wrote.
 #![tactic(auto)]
 
-ghost use Rattle.std.specs.Prelude.{◌+◌, ◌≤◌, ◌<◌, ◌^◌, max, ◌≡◌, [], ◌∷◌, ◌++◌, nat_abs, length};
+ghost use Rattle.std.specs.Prelude.{◌+◌, ◌≤◌, ◌<◌, max, ◌≡◌, [], ◌∷◌, ◌++◌, length};
 ghost use Rattle.paper.specs.Text.{semicolon, digits, signed_digits};
 ghost use Rattle.paper.specs.Explanation.{setter_of, setter_letter, setter_line};
-ghost use Rattle.lines.specs.Written.{Wrote, pair, four, eight, money_text, code_text, mark_line, position_line, total_line, security_line, taken_line, refusal_line};
+ghost use Rattle.lines.specs.Written.{Wrote, money_text, code_text, mark_line, position_line, total_line, security_line, taken_line, refusal_line};
 
+use std::cmp::Ordering;
 use tables::{Code, Money};
 
 pub type Place = usize; // in the report, bytes
 
-// One byte.
-fn put_byte(
-    report: &mut [u8],
-    at: Place,
-    b: u8, // a byte
-) -> Place
-    requires { at < length report.old }
-    ensures { Wrote (b ∷ []) at report.old result report.new }
+// A text as it is.
+#[inline(always)]
+fn put(report: &mut [u8], at: Place, text: &[u8]) -> Place
+    requires { at + length text.now ≤ length report.old }
+    ensures { Wrote text.now at report.old result report.new }
 {
-    report[at] = b;
-    at + 1
+    let behind = at + text.len();
+    report[at..behind].copy_from_slice(text);
+    behind
 }
 
-// Two bytes.
-fn put_two(
-    report: &mut [u8],
-    at: Place,
-    a: u8, // a byte
-    b: u8, // a byte
-) -> Place
-    requires { at + 2 ≤ length report.old }
-    ensures { Wrote (a ∷ b ∷ []) at report.old result report.new }
-{
-    let second = put_byte(report, at, a);
-    put_byte(report, second, b)
-}
-
-// The two digits of a number below a hundred.
-fn put_pair(
-    report: &mut [u8],
-    at: Place,
-    n: u64, // any unit
-) -> Place
-    requires { (n < 100) × (at + 2 ≤ length report.old) }
-    ensures { Wrote (pair n) at report.old result report.new }
-{
-    put_two(report, at, (48 + n / 10) as u8, (48 + n % 10) as u8)
-}
-
-// The four digits of a number below ten thousand.
-fn put_four(
-    report: &mut [u8],
-    at: Place,
-    n: u64, // any unit
-) -> Place
-    requires { (n < 10_000) × (at + 4 ≤ length report.old) }
-    ensures { Wrote (four n) at report.old result report.new }
-{
-    let ones = put_pair(report, at, n / 100);
-    put_pair(report, ones, n % 100)
-}
-
-// A number below a hundred, without a 0 before it.
-fn put_first(
-    report: &mut [u8],
-    at: Place,
-    n: u64, // any unit
-) -> Place
-    requires { (n < 100) × (at + length (digits n) ≤ length report.old) }
-    ensures { Wrote (digits n) at report.old result report.new }
-{
-    if n < 10 {
-        return put_byte(report, at, (48 + n) as u8);
-    }
-    put_pair(report, at, n)
-}
-
-// A number below ten thousand, without a 0 before it.
-fn put_small(
-    report: &mut [u8],
-    at: Place,
-    n: u64, // any unit
-) -> Place
-    requires { (n < 10_000) × (at + length (digits n) ≤ length report.old) }
-    ensures { Wrote (digits n) at report.old result report.new }
-{
-    if n < 100 {
-        return put_first(report, at, n);
-    }
-    let ones = put_first(report, at, n / 100);
-    put_pair(report, ones, n % 100)
-}
-
-// A number below a hundred million, without a 0 before it.
-fn put_middle(
-    report: &mut [u8],
-    at: Place,
-    n: u64, // any unit
-) -> Place
-    requires { (n < 100_000_000) × (at + length (digits n) ≤ length report.old) }
-    ensures { Wrote (digits n) at report.old result report.new }
-{
-    if n < 10000 {
-        return put_small(report, at, n);
-    }
-    let last = put_small(report, at, n / 10000);
-    put_four(report, last, n % 10000)
-}
-
-// The eight digits of a number below a hundred million.
-fn put_eight(
-    report: &mut [u8],
-    at: Place,
-    n: u64, // any unit
-) -> Place
-    requires { (n < 100_000_000) × (at + 8 ≤ length report.old) }
-    ensures { Wrote (eight n) at report.old result report.new }
-{
-    let last = put_four(report, at, n / 10000);
-    put_four(report, last, n % 10000)
-}
-
-// A number below 10 ^ 16, without a 0 before it.
-fn put_long(
-    report: &mut [u8],
-    at: Place,
-    n: u64, // any unit
-) -> Place
-    requires { (n < 10_000_000_000_000_000) × (at + length (digits n) ≤ length report.old) }
-    ensures { Wrote (digits n) at report.old result report.new }
-{
-    if n < 100000000 {
-        return put_middle(report, at, n);
-    }
-    let last = put_middle(report, at, n / 100000000);
-    put_eight(report, last, n % 100000000)
-}
-
-// Any number. Eight digits at a time, as calls and divisions of 64 bits are dear.
+// A number in digits: as many as it has powers of ten, and one.
 fn put_number(
     report: &mut [u8],
     at: Place,
@@ -148,11 +32,9 @@ fn put_number(
     requires { at + length (digits n) ≤ length report.old }
     ensures { Wrote (digits n) at report.old result report.new }
 {
-    if n < 100000000 {
-        return put_middle(report, at, n);
-    }
-    let last = put_long(report, at, n / 100000000);
-    put_eight(report, last, n % 100000000)
+    let behind = at + 1 + n.max(1).ilog10() as usize;
+    itoa::write_digits(n, report, behind);
+    behind
 }
 
 // A number and the byte that ends its field.
@@ -166,7 +48,7 @@ fn put_field(
     ensures { Wrote (digits n ++ (end ∷ [])) at report.old result report.new }
 {
     let behind = put_number(report, at, n);
-    put_byte(report, behind, end)
+    put(report, behind, &[end])
 }
 
 // A signed number and the byte that ends its field.
@@ -176,16 +58,11 @@ fn put_signed_field(
     z: i64, // any unit
     end: u8, // a byte
 ) -> Place
-    requires size { nat_abs z < 2 ^ 63 }
-    requires room { at + length (signed_digits z ++ (end ∷ [])) ≤ length report.old }
+    requires { at + length (signed_digits z ++ (end ∷ [])) ≤ length report.old }
     ensures { Wrote (signed_digits z ++ (end ∷ [])) at report.old result report.new }
 {
-    if z < 0 {
-        let size = whole::below_zero(z); // any unit
-        let first = put_byte(report, at, 45);
-        return put_field(report, first, size, end);
-    }
-    put_field(report, at, whole::above_zero(z), end)
+    let first = if z < 0 { put(report, at, b"-") } else { at };
+    put_field(report, first, z.unsigned_abs(), end)
 }
 
 // The three letters of a currency, and `;`.
@@ -193,13 +70,10 @@ fn put_currency(report: &mut [u8], at: Place, money: Money) -> Place
     requires { (money < 79_507) × (at + 4 ≤ length report.old) }
     ensures { Wrote (money_text money ++ (semicolon ∷ [])) at report.old result report.new }
 {
-    let third = put_two(
-        report,
-        at,
-        (48 + money / 1849) as u8,
-        (48 + money / 43 % 43) as u8,
-    );
-    put_two(report, third, (48 + money % 43) as u8, 59)
+    let first = (48 + money / 1849) as u8; // a byte
+    let second = (48 + money / 43 % 43) as u8; // a byte
+    let third = (48 + money % 43) as u8; // a byte
+    put(report, at, &[first, second, third, b';'])
 }
 
 // The twelve bytes of a code, and `;`: those in base 43 from the last to the first, then the digit behind them.
@@ -208,13 +82,11 @@ fn put_code(report: &mut [u8], at: Place, code: Code) -> Place
     ensures { Wrote (code_text code ++ (semicolon ∷ [])) at report.old result report.new }
 {
     let mut n = code / 10; // the bytes not written yet, in base 43
-    let mut i: usize = 11; // bytes not written yet
-    while 0 < i {
-        i -= 1;
+    for i in (0..11).rev() {
         report[at + i] = (48 + n % 43) as u8;
-        n = n / 43;
+        n /= 43;
     }
-    put_two(report, at + 11, (48 + code % 10) as u8, 59)
+    put(report, at + 11, &[(48 + code % 10) as u8, b';'])
 }
 
 // The mark-to-market of the trade on a line of the sheet.
@@ -225,14 +97,14 @@ pub fn mark_line(
     line: u64, // of the sheet, from 1
     mark: i64, // cents
 ) -> Place
-    requires numbers { (nat_abs mark < 2 ^ 63) × (money < 79_507) }
+    requires currency { money < 79_507 }
     requires room { at + length (mark_line line (money_text money) mark) ≤ length report.old }
     ensures { Wrote (mark_line line (money_text money) mark) at report.old result report.new }
 {
-    let first = put_two(report, at, 77, 59);
-    let second = put_field(report, first, line, 59);
+    let first = put(report, at, b"M;");
+    let second = put_field(report, first, line, b';');
     let third = put_currency(report, second, money);
-    put_signed_field(report, third, mark, 10)
+    put_signed_field(report, third, mark, b'\n')
 }
 
 // A class's positions in a currency, and its margin.
@@ -249,12 +121,12 @@ pub fn position_line(
     requires room { at + length (position_line (money_text money) class long short margin) ≤ length report.old }
     ensures { Wrote (position_line (money_text money) class long short margin) at report.old result report.new }
 {
-    let first = put_two(report, at, 75, 59);
+    let first = put(report, at, b"K;");
     let second = put_currency(report, first, money);
-    let third = put_field(report, second, class, 59);
-    let fourth = put_field(report, third, long, 59);
-    let fifth = put_field(report, fourth, short, 59);
-    put_field(report, fifth, margin, 10)
+    let third = put_field(report, second, class, b';');
+    let fourth = put_field(report, third, long, b';');
+    let fifth = put_field(report, fourth, short, b';');
+    put_field(report, fifth, margin, b'\n')
 }
 
 // A currency's totals.
@@ -266,15 +138,15 @@ pub fn total_line(
     initial: u64, // whole units
     total: u64, // cents
 ) -> Place
-    requires numbers { (nat_abs mark < 2 ^ 63) × (money < 79_507) }
+    requires currency { money < 79_507 }
     requires room { at + length (total_line (money_text money) mark initial total) ≤ length report.old }
     ensures { Wrote (total_line (money_text money) mark initial total) at report.old result report.new }
 {
-    let first = put_two(report, at, 90, 59);
+    let first = put(report, at, b"Z;");
     let second = put_currency(report, first, money);
-    let third = put_signed_field(report, second, mark, 59);
-    let fourth = put_field(report, third, initial, 59);
-    put_field(report, fourth, total, 10)
+    let third = put_signed_field(report, second, mark, b';');
+    let fourth = put_field(report, third, initial, b';');
+    put_field(report, fourth, total, b'\n')
 }
 
 // The net of a security.
@@ -284,13 +156,12 @@ pub fn security_line(
     code: Code,
     net: i64, // whole units
 ) -> Place
-    requires size { nat_abs net < 2 ^ 63 }
-    requires room { at + length (security_line (code_text code) net) ≤ length report.old }
+    requires { at + length (security_line (code_text code) net) ≤ length report.old }
     ensures { Wrote (security_line (code_text code) net) at report.old result report.new }
 {
-    let first = put_two(report, at, 80, 59);
+    let first = put(report, at, b"P;");
     let second = put_code(report, first, code);
-    put_signed_field(report, second, net, 10)
+    put_signed_field(report, second, net, b'\n')
 }
 
 // What the row of the priority list on a line of the sheet took from a class.
@@ -304,10 +175,10 @@ pub fn taken_line(
     requires { at + length (taken_line line long short) ≤ length report.old }
     ensures { Wrote (taken_line line long short) at report.old result report.new }
 {
-    let first = put_two(report, at, 82, 59);
-    let second = put_field(report, first, line, 59);
-    let third = put_field(report, second, long, 59);
-    put_field(report, third, short, 10)
+    let first = put(report, at, b"R;");
+    let second = put_field(report, first, line, b';');
+    let third = put_field(report, second, long, b';');
+    put_field(report, third, short, b'\n')
 }
 
 // The letter of the larger side: L the long, S the short, E where they are equal.
@@ -317,10 +188,11 @@ fn setter_letter(
 ) -> u8
     ensures { (result ∷ []) ≡ setter_letter (setter_of long short) }
 {
-    if long == short {
-        return 69;
+    match long.cmp(&short) {
+        Ordering::Less => b'S',
+        Ordering::Equal => b'E',
+        Ordering::Greater => b'L',
     }
-    if short < long { 76 } else { 83 }
 }
 
 // The remaining side that set the margin, and its amount.
@@ -333,9 +205,9 @@ pub fn setter_line(
     requires { at + length (setter_line (setter_of long short) (max long short)) ≤ length report.old }
     ensures { Wrote (setter_line (setter_of long short) (max long short)) at report.old result report.new }
 {
-    let first = put_two(report, at, 66, 59);
-    let second = put_two(report, first, setter_letter(long, short), 59);
-    put_field(report, second, whole::greatest(long, short), 10)
+    let first = put(report, at, b"B;");
+    let second = put(report, first, &[setter_letter(long, short), b';']);
+    put_field(report, second, long.max(short), b'\n')
 }
 
 // A refusal, as the forecast prints it.
@@ -348,7 +220,7 @@ pub fn refusal_line(
     requires { at + length (refusal_line number line) ≤ length report.old }
     ensures { Wrote (refusal_line number line) at report.old result report.new }
 {
-    let first = put_two(report, at, 78, 59);
-    let second = put_field(report, first, number, 59);
-    put_field(report, second, line, 10)
+    let first = put(report, at, b"N;");
+    let second = put_field(report, first, number, b';');
+    put_field(report, second, line, b'\n')
 }

@@ -2,17 +2,17 @@
 use Prim.Native.Nat.{ℕ, zero, suc, ◌+◌, ◌-◌, ◌≤◌, ◌<◌}
 use native.Mathlib.Omega.{arith}
 use mathlib.Core.List.{List, [], ◌∷◌, ◌++◌, map, append_assoc}
-use mathlib.Core.Path.{◌≡◌, sym, ap, ◌∙◌, subst}
-use lib.ListN.{length, get_or, take, drop, set, replicate, length-map, length-replicate, replicate-append-replicate}
-use lib.Seq.{length-take-le, drop-cons, drop-length, get_or-take, set-append_seam}
+use mathlib.Core.Path.{◌≡◌, sym, ap, ◌∙◌}
+use lib.ListN.{length, get_or, drop, set, replicate, length-map, length-replicate, replicate-append-replicate}
+use lib.Seq.{drop-cons, drop-length, set-append_seam}
 use Rattle.paper.specs.Lists.{Each, nil, cons}
-use Rattle.paper.proofs.Lists.{each_at, made_at}
+use Rattle.paper.proofs.Lists.{made_at}
 use Rattle.tables.specs.Padded.{padded}
 use Rattle.tables.proofs.Padded.{padded_parts}
 
 module _ {A : Type 0} where
   -- The rows from one before, where there is one
-  drop_before : (xs : List A) (i : ℕ) (other : A) → 0 < i → i ≤ length xs → drop (i - 1) xs ≡ get_or xs (i - 1) other ∷ drop i xs
+  pub drop_before : (xs : List A) (i : ℕ) (other : A) → 0 < i → i ≤ length xs → drop (i - 1) xs ≡ get_or xs (i - 1) other ∷ drop i xs
   drop_before xs i other low high =
       let behind : suc (i - 1) ≡ i = omega arith in
       drop-cons xs (i - 1) other (omega arith) ∙ ap (λ (n : ℕ). get_or xs (i - 1) other ∷ drop n xs) behind
@@ -59,54 +59,21 @@ each_drop zero each = each
 each_drop (suc i) nil = nil
 each_drop (suc i) (cons p rest) = each_drop i rest
 
--- ... and of what stands at any place, where it holds of what stands past them
-pub each_or : {A : Type 0} {P : A → Type 0} {xs : List A} → Each P xs → (n : ℕ) (other : A) → P other → P (get_or xs n other)
-each_or nil n other past = past
-each_or (cons p rest) zero other past = p
-each_or (cons p rest) (suc n) other past = each_or rest n other past
+-- A table of what is made of rows, filled from the last to the first
+module _ {R A : Type 0} (make : R → A) (rows : List R) (other : R) (most : ℕ) (none : A) (few : length rows ≤ most) where
+  many : length (map make rows) ≡ length rows
+  many = length-map rows make
 
--- The first so many rows of a table
-module _ {R : Type 0} (rows : List R) (count : ℕ) (fits : count ≤ length rows) where
-  -- They are so many
-  rows_many : length (take count rows) ≡ count
-  rows_many = length-take-le count rows fits
+  -- At first it is empty, a turn fills one more, and at last it is whole
+  pub made_none : replicate most none ≡ filled_from most none (map make rows) (length rows)
+  made_none = filled_none most none (map make rows) (omega (arith, many)) (length rows) (sym many)
 
-  -- Behind the last there is none
-  pub drop_all : drop count (take count rows) ≡ []
-  drop_all = ap (λ (n : ℕ). drop n (take count rows)) (sym rows_many) ∙ drop-length (take count rows)
+  pub made_more : (i : ℕ) (t : List A) (a : A) → t ≡ filled_from most none (map make rows) i → 0 < i → i ≤ length rows → a ≡ make (get_or rows (i - 1) other)
+      → set t (i - 1) a ≡ filled_from most none (map make rows) (i - 1)
+  made_more i t a e low high is =
+      ap (λ (l : List A). set l (i - 1) a) e
+      ∙ filled_more most none (map make rows) (omega (arith, many)) i a low (omega (arith, many))
+      (is ∙ sym (made_at make rows (i - 1) none other (omega arith)))
 
-  module _ (other : R) where
-    -- One before, where there is one
-    row_at : (i : ℕ) → 0 < i → i ≤ count → get_or (take count rows) (i - 1) other ≡ get_or rows (i - 1) other
-    row_at i low high = get_or-take count rows (i - 1) other (omega arith)
-
-    pub rows_before : (i : ℕ) → 0 < i → i ≤ count → drop (i - 1) (take count rows) ≡ get_or rows (i - 1) other ∷ drop i (take count rows)
-    rows_before i low high =
-        drop_before (take count rows) i other low (omega (arith, rows_many))
-        ∙ ap (λ (r : R). r ∷ drop i (take count rows)) (row_at i low high)
-
-    -- What holds of each of them holds of it
-    pub each_before : {P : R → Type 0} → Each P (take count rows) → (i : ℕ) → 0 < i → i ≤ count → P (get_or rows (i - 1) other)
-    each_before {P} each i low high = subst P (row_at i low high) (each_at (i - 1) other each (omega (arith, rows_many)))
-
-    -- A table of what is made of them, filled from the last to the first
-    module _ {A : Type 0} (make : R → A) (most : ℕ) (none : A) (few : count ≤ most) where
-      abbrev made_from : ℕ → List A
-      made_from i = filled_from most none (map make (take count rows)) i
-
-      made_many : length (map make (take count rows)) ≡ count
-      made_many = length-map (take count rows) make ∙ rows_many
-
-      -- At first it is empty, a turn fills one more, and at last it is whole
-      pub made_none : replicate most none ≡ made_from count
-      made_none = filled_none most none (map make (take count rows)) (omega (arith, made_many)) count (sym made_many)
-
-      pub made_more : (i : ℕ) (t : List A) (a : A) → t ≡ made_from i → 0 < i → i ≤ count → a ≡ make (get_or rows (i - 1) other)
-          → set t (i - 1) a ≡ made_from (i - 1)
-      made_more i t a e low high is =
-          ap (λ (l : List A). set l (i - 1) a) e
-          ∙ filled_more most none (map make (take count rows)) (omega (arith, made_many)) i a low (omega (arith, made_many))
-          (is ∙ ap make (sym (row_at i low high)) ∙ sym (made_at make (take count rows) (i - 1) none other (omega (arith, rows_many))))
-
-      pub made_all : (i : ℕ) → i ≡ 0 → made_from i ≡ padded most none (map make (take count rows))
-      made_all i e = filled_all most none (map make (take count rows)) (omega (arith, made_many)) i e
+  pub made_all : (i : ℕ) → i ≡ 0 → filled_from most none (map make rows) i ≡ padded most none (map make rows)
+  made_all i e = filled_all most none (map make rows) (omega (arith, many)) i e

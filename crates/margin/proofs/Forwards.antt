@@ -5,7 +5,6 @@ use native.Mathlib.Omega.{arith}
 use mathlib.Core.List.{List, [], ◌∷◌, ◌++◌, map}
 use mathlib.Core.Path.{◌≡◌, refl, sym, ap, ap₂, ◌∙◌}
 use lib.ListN.{length, set}
-use lib.Seq.{take_at}
 use Rattle.paper.specs.Lists.{Each, nil, cons}
 use Rattle.tables.specs.Padded.{padded}
 use Rattle.tables.proofs.Padded.{padded_more}
@@ -49,7 +48,7 @@ module _ {A : Type 0} (make : ℕ → A) where
   pub ranks_made : {B : Type 0} (f : B → A) (xs : List B) → ((k : ℕ) (x : B) → Stands x xs k → make k ≡ f x) → from_rank make (length xs) 0 ≡ map f xs
   ranks_made f xs same = made_from_lem f xs 0 (λ k x at. let start : 0 + k ≡ k = omega arith in rw start (same k x at))
 
-  -- A turn of a loop by rising rank, and all of them
+  -- A turn of a loop by rising rank
   module _ (most : ℕ) (none : A) where
     pub rank_stored : (rank : ℕ) (table : List A) (a : A) → rank < most → table ≡ padded most none (from_rank make rank 0) → a ≡ make rank
         → set table rank a ≡ padded most none (from_rank make (rank + 1) 0)
@@ -60,6 +59,3 @@ module _ {A : Type 0} (make : ℕ → A) where
         ap₂ (λ (l : List A) (n : ℕ). set l n a) e (sym (ranks_many rank 0)) ∙ padded_more most none a hs (omega (arith, ranks_many rank 0))
         ∙ ap (padded most none) more
         ∙ ap (λ (n : ℕ). padded most none (from_rank make n 0)) (sym (add-one rank))
-
-    pub ranks_all : (rank : ℕ) → rank ≡ most → padded most none (from_rank make rank 0) ≡ from_rank make most 0
-    ranks_all rank all = rw all (take_at (from_rank make most 0) _ most (ranks_many most 0))

@@ -15,7 +15,7 @@ use Rattle.paper.proofs.Lists.{only_kept, only_left}
 use Rattle.margin.specs.Sums.{gathered}
 
 -- Where there is one thing only, it stands at each place
-same_at : {N : Type 0} (x : N) (size k : ℕ) → get_or (replicate size x) k x ≡ x
+pub same_at : {N : Type 0} (x : N) (size k : ℕ) → get_or (replicate size x) k x ≡ x
 same_at x zero k = refl
 same_at x (suc size) zero = refl
 same_at x (suc size) (suc k) = same_at x size k
@@ -28,7 +28,7 @@ stored_at P (a ∷ xs) zero x (suc j) other p q = p
 stored_at P (a ∷ xs) (suc i) x zero other p q = p
 stored_at P (a ∷ xs) (suc i) x (suc j) other p q = stored_at P xs i x j other p q
 
-module _ {A N : Type 0} (plus : N → N → N) (none : N) (size : ℕ) (key : A → ℕ) (amount : A → N) where
+module _ {A M N : Type 0} (plus : M → N → N) (none : N) (size : ℕ) (key : A → ℕ) (amount : A → M) where
   -- There are as many sums as the size says
   pub gathered_length : (xs : List A) → length (gathered plus none size key amount xs) ≡ size
   gathered_length [] = length-replicate size none
@@ -37,23 +37,36 @@ module _ {A N : Type 0} (plus : N → N → N) (none : N) (size : ℕ) (key : A 
       length-set sums (key a) (plus (amount a) (get_or sums (key a) none)) ∙ gathered_length xs
 
   -- A sum of amounts is at most the largest times how many they are, in size
-  pub gathered_most : (sized : N → ℕ) → sized none ≡ 0 → ((a b : N) → sized (plus a b) ≤ sized a + sized b)
-      → (most : ℕ) {xs : List A} → Each (λ a. sized (amount a) ≤ most) xs
+  pub gathered_most : (sized : N → ℕ) (weight : M → ℕ) → sized none ≡ 0 → ((m : M) (n : N) → sized (plus m n) ≤ weight m + sized n)
+      → (most : ℕ) {xs : List A} → Each (λ a. weight (amount a) ≤ most) xs
       → (k : ℕ) → sized (get_or (gathered plus none size key amount xs) k none) ≤ length xs * most
-  gathered_most sized empty more most nil k = omega (arith, ap sized (same_at none size k))
-  gathered_most sized empty more most (cons {a} {rest = xs} small rest) k =
+  gathered_most sized weight empty more most nil k = omega (arith, ap sized (same_at none size k))
+  gathered_most sized weight empty more most (cons {a} {rest = xs} small rest) k =
       let sums = gathered plus none size key amount xs in
-      let there = gathered_most sized empty more most rest k in
-      let own = gathered_most sized empty more most rest (key a) in
+      let there = gathered_most sized weight empty more most rest k in
+      let own = gathered_most sized weight empty more most rest (key a) in
       stored_at (λ (n : N). sized n ≤ suc (length xs) * most) sums (key a) (plus (amount a) (get_or sums (key a) none)) k none
       (omega arith)
       (omega (arith, more (amount a) (get_or sums (key a) none)))
 
   -- An amount more: the sum of its key grows by it
-  pub gathered_more : (a : A) {xs all : List A} {sums : List N} {n : N} → sums ≡ gathered plus none size key amount xs → n ≡ amount a → all ≡ a ∷ xs
-      → set sums (key a) (plus n (get_or sums (key a) none)) ≡ gathered plus none size key amount all
+  pub gathered_more : (a : A) {xs all : List A} {sums : List N} {m : M} → sums ≡ gathered plus none size key amount xs → m ≡ amount a → all ≡ a ∷ xs
+      → set sums (key a) (plus m (get_or sums (key a) none)) ≡ gathered plus none size key amount all
   gathered_more a e is front =
-      ap₂ (λ (l : List N) (m : N). set l (key a) (plus m (get_or l (key a) none))) e is ∙ sym (ap (gathered plus none size key amount) front)
+      ap₂ (λ (l : List N) (m : M). set l (key a) (plus m (get_or l (key a) none))) e is ∙ sym (ap (gathered plus none size key amount) front)
+
+  -- At the place of its key its amount is added, and at any other nothing changes
+  pub gathered_own : (a : A) (xs : List A) (k : ℕ) → k < size → key a ≡ k
+      → get_or (gathered plus none size key amount (a ∷ xs)) k none ≡ plus (amount a) (get_or (gathered plus none size key amount xs) k none)
+  gathered_own a xs k low same =
+      let sums = gathered plus none size key amount xs in
+      rw same (get_or-set_same sums k (plus (amount a) (get_or sums k none)) none (omega (arith, gathered_length xs)))
+
+  pub gathered_other : (a : A) (xs : List A) (k : ℕ) → (key a ≡ k → ⊥)
+      → get_or (gathered plus none size key amount (a ∷ xs)) k none ≡ get_or (gathered plus none size key amount xs) k none
+  gathered_other a xs k other =
+      let sums = gathered plus none size key amount xs in
+      get_or-set_other sums (key a) k (plus (amount a) (get_or sums (key a) none)) none (λ same. other (sym same))
 
 -- ---- what stands at a place
 
@@ -79,16 +92,11 @@ module _ {A : Type 0} (size : ℕ) (key : A → ℕ) (amount : A → ℤ) (k : �
       own : A → Bool
       own a = eqb (key a) k
 
-      sums : List ℤ
-      sums = gathered ◌+ℤ◌ (pos 0) size key amount xs
-
-      go : (b : Bool) → own a ≡ b → get_or sums k (pos 0) ≡ sum_of own amount xs
-          → get_or (set sums (key a) (amount a +ℤ get_or sums (key a) (pos 0))) k (pos 0) ≡ sum_of own amount (a ∷ xs)
+      go : (b : Bool) → own a ≡ b → get_or (gathered ◌+ℤ◌ (pos 0) size key amount xs) k (pos 0) ≡ sum_of own amount xs
+          → get_or (gathered ◌+ℤ◌ (pos 0) size key amount (a ∷ xs)) k (pos 0) ≡ sum_of own amount (a ∷ xs)
       go true e rest =
-          let same : key a ≡ k = eqb-true (key a) k e in
-          rw (same, get_or-set_same sums k (amount a +ℤ get_or sums k (pos 0)) (pos 0) (omega (arith, gathered_length ◌+ℤ◌ (pos 0) size key amount xs)), rest)
-          (sym (sum_kept own amount a xs e))
+          gathered_own ◌+ℤ◌ (pos 0) size key amount a xs k low (eqb-true (key a) k e)
+          ∙ ap (λ (z : ℤ). amount a +ℤ z) rest
+          ∙ sym (sum_kept own amount a xs e)
       go false e rest =
-          get_or-set_other sums (key a) k (amount a +ℤ get_or sums (key a) (pos 0)) (pos 0) (λ same. eqb-false (key a) k e (sym same))
-          ∙ rest
-          ∙ sym (sum_left own amount a xs e)
+          gathered_other ◌+ℤ◌ (pos 0) size key amount a xs k (eqb-false (key a) k e) ∙ rest ∙ sym (sum_left own amount a xs e)

@@ -8,19 +8,19 @@ use mathlib.Core.Option.{Option, none, some}
 use mathlib.Core.Path.{◌≡◌, refl, sym, ap, ap₂, ◌∙◌}
 use lib.Dec.{eqb}
 use lib.IntN.{pos}
-use lib.ListN.{length, get_or, take}
+use lib.ListN.{length, get_or, length-map}
 use Rattle.paper.specs.Units.{Line, Duration, SignedCents}
 use Rattle.paper.specs.Units as units
 use Rattle.paper.specs.Days.{day}
 use Rattle.paper.specs.Lists.{first_that, Each, nil, cons}
 use Rattle.paper.specs.Rounding.{rounded}
-use Rattle.paper.specs.Signs.{above_zero, below_zero, signed_sum}
+use Rattle.paper.specs.Signs.{signed_sum}
 use Rattle.paper.specs.Text.{same, is_currency}
 use Rattle.paper.specs.Rows as paper
 use Rattle.paper.specs.Rows.{Kind, repo, cash, SecurityRow, TradeRow, Tables, same_kind}
 use Rattle.paper.specs.Currencies.{currencies}
 use Rattle.paper.specs.Valuation.{margined, accrual_day, lower, class_of, valued_in, signed_worths_in}
-use Rattle.paper.specs.Offsetting.{Book, netted_in, nets_in, summed, opening_in}
+use Rattle.paper.specs.Offsetting.{Book, netted_in, opening_in}
 use Rattle.paper.specs.Report.{margin_of, mark_in}
 use Rattle.paper.specs.Tables.{Admitted}
 use Rattle.paper.proofs.Lists.{never, each_map, each_made, each_found}
@@ -35,20 +35,20 @@ use Rattle.tables.specs.declared.Security.{Security}
 use Rattle.tables.specs.declared.Trade.{Trade}
 use Rattle.tables.proofs.Padded.{table_front}
 use Rattle.tables.proofs.Numbers.{code_number_same, currency_number_same}
-use Rattle.tables.proofs.Places.{Stands, stands_low, stands_each, each_standing, Rises, rises_same, currencies_rise, currency_stands, codes_rise}
+use Rattle.tables.proofs.Places.{Stands, stands_low, stands_each, stands_made, each_standing, Rises, rises_same, currencies_rise, currency_stands, codes_rise}
 use Rattle.valuation.specs.Valued.{Ranged, Quoted}
 use Rattle.valuation.specs.declared.Valued.{Valued}
 use Rattle.offsetting.specs.Books.{row_of}
 use Rattle.margin.specs.Sums.{security_in, value_in, sums_of}
-use Rattle.margin.specs.Openings.{from_rank, Net, net_at, positions_of, place_in}
-use Rattle.margin.specs.Figures.{margin_in, class_rows, priority_rows, no_currency, trade_sums, opening_book, currency_at, figures_of, TablesRanged}
+use Rattle.margin.specs.Openings.{Net, net_at, nets_of}
+use Rattle.margin.specs.Figures.{margin_in, class_rows, priority_rows, security_rows, trade_rows, no_currency, trade_sums, opening_book, currency_at, figures_of, TablesRanged}
 use Rattle.margin.specs.Held.{mark_of, held_currency, held_figures}
 use Rattle.margin.specs.declared.Sums.{Sums}
 use Rattle.margin.specs.declared.Currency.{Currency}
 use Rattle.margin.proofs.Forwards.{ranks_made}
 use Rattle.margin.proofs.Gathered.{gathered_at}
 use Rattle.margin.proofs.Trades.{Known, trades_known, rows_of, trade_in, security_held, value_held, sums_held}
-use Rattle.margin.proofs.Parts.{side_summed}
+use Rattle.margin.proofs.Parts.{rank_opened}
 
 -- The class of a security is at most 40
 class_most : (cs : List paper.ClassRow) → Each ClassFacts cs → (kind : Kind) (duration : Option Duration) → Option.get_or (class_of cs kind duration) 0 ≤ 40
@@ -111,10 +111,10 @@ module _ (t : Tables) (admitted : Admitted t) where
   priorities_held : priority_rows (held_tables t).priorities ≡ map held_priority t.priorities
   priorities_held = table_front 200 no_priority held_priority t.priorities facts.few_priorities
 
-  securities_held : take (length t.securities) (rows_of t) ≡ map (held_security t.classes (currencies t.securities)) t.securities
+  securities_held : security_rows (held_tables t).securities ≡ map (held_security t.classes (currencies t.securities)) t.securities
   securities_held = table_front 200 no_security (held_security t.classes (currencies t.securities)) t.securities facts.few_securities
 
-  trades_held : take (length t.trades) (held_tables t).trades.rows ≡ map (trade_in t) t.trades
+  trades_held : trade_rows (held_tables t).trades ≡ map (trade_in t) t.trades
   trades_held = table_front 500 no_trade (trade_in t) t.trades facts.few_trades
 
   -- The currency of a security is that of a rank exactly where the rank is its own
@@ -151,24 +151,22 @@ module _ (t : Tables) (admitted : Admitted t) where
       (trades_known t admitted)
 
   -- The nets of the securities, whole units
-  nets_held : from_rank (net_at (rows_of t) (sums_in t).worths) (length t.securities) 0 ≡ map (ranked_net t) t.securities
+  nets_held : nets_of (security_rows (held_tables t).securities) (sums_in t).worths ≡ map (ranked_net t) t.securities
   nets_held =
-      ranks_made (net_at (rows_of t) (sums_in t).worths) (ranked_net t) t.securities
+      let held = held_security t.classes (currencies t.securities) in
+      rw (securities_held, length-map t.securities held)
+      (ranks_made (net_at (map held t.securities) (sums_in t).worths) (ranked_net t) t.securities
       (λ k s at.
       ap₂ (λ (h : Security) (worth : SignedCents). record { rank = h.currency; class = h.class; net = rounded worth 100 })
-      (security_held t admitted at)
-      (worth_held k s at))
-
-  -- One side of the positions of a currency, whole units
-  side_held : (side : units.SignedWhole → units.Whole) (k : ℕ) (c : units.Currency) → Stands c (currencies t.securities) k
-      → from_rank (λ class. get_or (positions_of side (map (ranked_net t) t.securities)) (place_in k class) 0) 41 0 ≡ summed side (nets_in t (valued_in t) c)
-  side_held side k c at =
-      side_summed k (λ s. same s.currency c) (netted_in t.classes (valued_in t)) (ranked_net t) (omega (arith, stands_low at, currencies_few)) side
-      (each_standing t.securities (λ i s own. (rank_of own k c at, refl, refl, class_most t.classes facts.classes s.kind s.duration)))
+      (stands_made held no_security at)
+      (worth_held k s at)))
 
   -- The opening positions of a currency are the paper's
   pub opening_held : (k : ℕ) (c : units.Currency) → Stands c (currencies t.securities) k → opening_book (held_tables t) k ≡ opening_in t c
-  opening_held k c at = rw (trades_held, nets_held, side_held above_zero k c at, side_held below_zero k c at)
+  opening_held k c at =
+      rw (trades_held, nets_held)
+      (rank_opened (λ s. same s.currency c) (netted_in t.classes (valued_in t)) (ranked_net t) k (omega (arith, stands_low at, currencies_few))
+      (each_standing t.securities (λ i s own. (rank_of own k c at, refl, refl))))
 
   -- The O rows are the paper's
   pub priorities_paper : map row_of (priority_rows (held_tables t).priorities) ≡ t.priorities

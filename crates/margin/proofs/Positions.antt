@@ -1,23 +1,30 @@
--- Opening positions: how large they are, and what stands at the places of one currency.
-use Prim.Native.Nat.{ℕ, ◌+◌, ◌≤◌}
-use native.Mathlib.Nat.{le_refl, le_trans, mul-le-mul_right}
+-- Positions: how large the opening ones are, and the margins on any.
+use Prim.Native.Nat.{ℕ, zero, suc, ◌+◌, ◌≤◌, ◌<◌}
+use native.Mathlib.Nat.{le_trans, mul-le-mul_right}
 use native.Mathlib.Omega.{arith}
-use mathlib.Core.List.{List}
-use mathlib.Core.Path.{refl}
+use mathlib.Core.List.{List, [], ◌∷◌}
+use mathlib.Core.Path.{◌≡◌}
 use lib.IntN.{pos, nat_abs}
-use lib.ListN.{get_or}
-use Rattle.paper.specs.Units.{SignedCents, Whole, SignedWhole}
+use lib.ListN.{length, get_or, set, length-take}
+use Rattle.std.proofs.lemmas.List.{get_or_default}
+use Rattle.paper.specs.Units.{Class, SignedCents, Whole, SignedWhole}
 use Rattle.paper.specs.Rounding.{rounded}
 use Rattle.paper.specs.Signs.{above_zero, below_zero}
-use Rattle.paper.specs.Bounds.{most_net_cents, most_net, most_position, BookFacts}
+use Rattle.paper.specs.Lists.{Each}
+use Rattle.paper.specs.Offsetting as paper
+use Rattle.paper.specs.Offsetting.{position}
+use Rattle.paper.specs.Bounds.{most_net_cents, most_net, most_position, most_initial, BookFacts}
+use Rattle.paper.proofs.Lists.{each_map}
 use Rattle.paper.proofs.Sizes.{rounded_at_most, above_within, below_within}
+use Rattle.paper.proofs.Totals.{margin_on_most, margins_most}
+use Rattle.tables.specs.declared.ClassRow.{ClassRow}
 use Rattle.tables.specs.declared.Security.{Security}
 use Rattle.tables.specs.declared.Tables.{Tables}
 use Rattle.offsetting.specs.Books.{book_of}
-use Rattle.margin.specs.Openings.{from_rank, net_at, place_in, positions_of, openings_of, book_at}
-use Rattle.margin.specs.Figures.{trade_sums, opening_book, TablesRanged}
-use Rattle.margin.proofs.Gathered.{gathered_most}
-use Rattle.margin.proofs.Backwards.{each_or}
+use Rattle.offsetting.specs.declared.Book.{Book}
+use Rattle.margin.specs.Openings.{Net, from_rank, net_at, no_book, with_net, openings_of}
+use Rattle.margin.specs.Figures.{margin_in, margins_of, security_rows, trade_sums, opening_book, ClassRanged, TablesRanged}
+use Rattle.margin.proofs.Gathered.{same_at, gathered_length, gathered_most}
 use Rattle.margin.proofs.Forwards.{ranks_many, ranks_each}
 use Rattle.margin.proofs.Values.{table_worths_most}
 
@@ -25,33 +32,56 @@ use Rattle.margin.proofs.Values.{table_worths_most}
 pub net_small : (worth : SignedCents) → nat_abs worth ≤ most_net_cents → nat_abs (rounded worth 100) ≤ most_net
 net_small worth h = rounded_at_most worth most_net 100 (omega arith) h
 
+-- An amount more in a class adds at most itself to the position of any: whole units
+more_at : (ps : List Whole) (class : Class) (amount : Whole) (n : Class)
+    → position (set ps class (position ps class + amount)) n ≤ amount + position ps n
+more_at [] class amount n = omega arith
+more_at (p ∷ ps) zero amount zero = omega arith
+more_at (p ∷ ps) zero amount (suc n) = omega arith
+more_at (p ∷ ps) (suc class) amount zero = omega arith
+more_at (p ∷ ps) (suc class) amount (suc n) = more_at ps class amount n
+
 module _ (ss : List Security) (worths : List SignedCents) (small : (i : ℕ) → nat_abs (get_or worths i (pos 0)) ≤ most_net_cents)
-    (many from : ℕ) (few : many ≤ 200) where
-  -- Each position of so many securities is within the table of bounds: whole units
-  side_most : (side : SignedWhole → Whole) → ((z : SignedWhole) → side z ≤ nat_abs z)
-      → (k : ℕ) → get_or (positions_of side (from_rank (net_at ss worths) many from)) k 0 ≤ most_position
-  side_most side within k =
+    (many from : ℕ) (few : many ≤ 200) (rank : ℕ) where
+  -- The positions of a currency, from the nets of so many securities
+  abbrev book : Book
+  book = get_or (openings_of (from_rank (net_at ss worths) many from)) rank no_book
+
+  -- Each position of one side is within the table of bounds: whole units
+  side_most : (side : SignedWhole → Whole) → ((z : SignedWhole) → side z ≤ nat_abs z) → (part : Book → List Whole) (n : Class)
+      → position (part no_book) n ≡ 0
+      → ((class : Class) (net : SignedWhole) (b : Book) → position (part (with_net class net b)) n ≤ side net + position (part b) n)
+      → position (part book) n ≤ most_position
+  side_most side within part n empty more =
       le_trans
-      (gathered_most ◌+◌ 0 328 (λ n. place_in n.rank n.class) (λ n. side n.net) (λ n. n) refl (λ a b. le_refl (a + b)) most_net
-      (ranks_each (net_at ss worths) (λ i. le_trans (within _) (net_small _ (small i))) many from) k)
+      (gathered_most (λ m b. with_net m.class m.net b) no_book 8 (λ m. m.rank) (λ m. m) (λ b. position (part b) n) (λ m. side m.net) empty
+      (λ m b. more m.class m.net b) most_net
+      (ranks_each (net_at ss worths) (λ i. le_trans (within _) (net_small _ (small i))) many from) rank)
       (rw (ranks_many (net_at ss worths) many from) (mul-le-mul_right most_net few))
 
-  pub long_most : (k : ℕ) → get_or (openings_of (from_rank (net_at ss worths) many from)).long k 0 ≤ most_position
-  long_most = side_most above_zero above_within
-
-  pub short_most : (k : ℕ) → get_or (openings_of (from_rank (net_at ss worths) many from)).short k 0 ≤ most_position
-  short_most = side_most below_zero below_within
-
-  -- ... and so is each in one currency
-  pub book_most : (rank : ℕ) → let o = openings_of (from_rank (net_at ss worths) many from) in
-      let b = book_at o.long o.short rank in BookFacts (book_of b.long b.short)
-  book_most rank =
+  pub book_most : BookFacts (book_of book)
+  book_most =
       record {
-        long = λ n. each_or {P = λ p. p ≤ most_position} (ranks_each _ (λ k. long_most (place_in rank k)) 41 0) n 0 (omega arith);
-        short = λ n. each_or {P = λ p. p ≤ most_position} (ranks_each _ (λ k. short_most (place_in rank k)) 41 0) n 0 (omega arith);
+        long = λ n. side_most above_zero above_within (λ b. b.long) n (same_at 0 41 n) (λ class net b. more_at b.long class (above_zero net) n);
+        short = λ n. side_most below_zero below_within (λ b. b.short) n (same_at 0 41 n) (λ class net b. more_at b.short class (below_zero net) n);
       }
+
+-- The positions in a currency are there, whatever else would stand past the last
+pub book_there : (ns : List Net) {openings : List Book} → openings ≡ openings_of ns → (rank : ℕ) → rank < 8 → (other : Book)
+    → get_or openings rank other ≡ get_or (openings_of ns) rank no_book
+book_there ns e rank low other =
+    rw e
+    (get_or_default (openings_of ns) rank other no_book
+    (omega (arith, gathered_length (λ n b. with_net n.class n.net b) no_book 8 (λ n. n.rank) (λ n. n) ns)))
 
 -- Those of tables are so
 pub opening_most : (t : Tables) → TablesRanged t → (rank : ℕ) → BookFacts (opening_book t rank)
 opening_most t ranged rank =
-    book_most t.securities.rows (trade_sums t).worths (table_worths_most t ranged) t.securities.count 0 ranged.few_securities rank
+    book_most (security_rows t.securities) (trade_sums t).worths (table_worths_most t ranged) (length (security_rows t.securities)) 0
+    (omega (arith, length-take t.securities.count t.securities.rows, ranged.few_securities))
+    rank
+
+-- The margins of classes on positions within the table of bounds come to no more than it says: whole units
+pub initial_most : (b : paper.Book) {cs : List ClassRow} → length cs ≤ 40 → Each ClassRanged cs → BookFacts b → (margins_of b cs).initial ≤ most_initial
+initial_most b {cs} few each within =
+    margins_most (margin_in b) cs few (each_map (λ r f. margin_on_most r.deposit r.class b f.deposit within) each)

@@ -11,6 +11,7 @@ use Rattle.paper.specs.Valuation.{margined, security_of, valued, valued_in}
 use Rattle.paper.specs.Offsetting.{nets_in, opening, offset_all, total}
 use Rattle.paper.specs.Report.{margin_of, mark_in}
 use Rattle.tables.specs.Padded.{padded}
+use Rattle.offsetting.specs.Books.{held_book}
 use Rattle.margin.specs.Figures.{no_currency}
 use Rattle.margin.specs.declared.Currency.{Currency}
 use Rattle.margin.specs.declared.Figures.{Figures}
@@ -30,8 +31,7 @@ held_currency t c =
     let mark = mark_in c (valued_in t) in
     let initial = sum (map (margin_of remaining) t.classes) in
     record {
-      long = remaining.long;
-      short = remaining.short;
+      book = held_book remaining;
       margins = padded 40 0 (map (margin_of remaining) t.classes);
       mark = mark;
       initial = initial;

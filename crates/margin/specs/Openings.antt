@@ -1,13 +1,13 @@
 -- The opening positions of all currencies, from the securities and what their trades sum up to.
-use Rattle.std.specs.Prelude.{ℕ, zero, suc, ◌+◌, ◌*◌, ◌≤◌, ◌<◌, List, [], ◌∷◌, pos, get_or}
-use Rattle.paper.specs.Units.{Class, SignedCents, Whole, SignedWhole}
+use Rattle.std.specs.Prelude.{ℕ, zero, suc, ◌+◌, ◌≤◌, ◌<◌, List, [], ◌∷◌, pos, length, get_or, set, replicate}
+use Rattle.paper.specs.Units.{Class, SignedCents, SignedWhole}
 use Rattle.paper.specs.Rounding.{rounded}
 use Rattle.paper.specs.Signs.{above_zero, below_zero}
+use Rattle.paper.specs.Offsetting.{position}
 use Rattle.tables.specs.Held.{no_security}
 use Rattle.tables.specs.declared.Security.{Security}
+use Rattle.offsetting.specs.declared.Book.{Book}
 use Rattle.margin.specs.Sums.{gathered}
-use Rattle.margin.specs.declared.Openings.{Openings}
-use Rattle.margin.specs.declared.Book.{Book}
 
 -- Something for each of so many ranks from one on
 abbrev pub from_rank : {A : Type 0} → (ℕ → A) → ℕ → ℕ → List A
@@ -26,25 +26,25 @@ net_at ss worths i =
     let s = get_or ss i no_security in
     record { rank = s.currency; class = s.class; net = rounded (get_or worths i (pos 0)) 100 }
 
--- The place of a class in the currency of a rank
-abbrev pub place_in : ℕ → Class → ℕ
-place_in rank class = 41 * rank + class
+-- The nets of all securities
+abbrev pub nets_of : List Security → List SignedCents → List Net
+nets_of ss worths = from_rank (net_at ss worths) (length ss) 0
 
--- One side of nets, summed by currency and class: whole units
-abbrev pub positions_of : (SignedWhole → Whole) → List Net → List Whole
-positions_of side ns = gathered ◌+◌ 0 328 (λ n. place_in n.rank n.class) (λ n. side n.net) ns
+-- No positions
+abbrev pub no_book : Book
+no_book = record { long = replicate 41 0; short = replicate 41 0 }
 
--- Both sides: the nets above zero are long, those below zero short
-abbrev pub openings_of : List Net → Openings
-openings_of ns = record { long = positions_of above_zero ns; short = positions_of below_zero ns }
-
--- The positions of the classes in the currency of a rank, from those in all
-abbrev pub book_at : List Whole → List Whole → ℕ → Book
-book_at long short rank =
+-- Positions with a net more in a class, whole units: one above zero is long, and one below zero short
+abbrev pub with_net : Class → SignedWhole → Book → Book
+with_net class net b =
     record {
-      long = from_rank (λ class. get_or long (place_in rank class) 0) 41 0;
-      short = from_rank (λ class. get_or short (place_in rank class) 0) 41 0;
+      long = set b.long class (position b.long class + above_zero net);
+      short = set b.short class (position b.short class + below_zero net);
     }
+
+-- The positions in each of eight currencies, from nets
+abbrev pub openings_of : List Net → List Book
+openings_of = gathered (λ n b. with_net n.class n.net b) no_book 8 (λ n. n.rank) (λ n. n)
 
 -- A security whose class and currency have a place
 pub record Seated (s : Security) : Type 0 where

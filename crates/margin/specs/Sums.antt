@@ -9,7 +9,7 @@ use Rattle.valuation.specs.declared.Valued.{Valued}
 use Rattle.margin.specs.declared.Sums.{Sums}
 
 -- Amounts summed by their keys: at each place below a size, the sum of the amounts whose key it is, of one unit
-abbrev pub gathered : {A N : Type 0} → (N → N → N) → N → ℕ → (A → ℕ) → (A → N) → List A → List N
+abbrev pub gathered : {A M N : Type 0} → (M → N → N) → N → ℕ → (A → ℕ) → (A → M) → List A → List N
 gathered plus zero size key amount [] = replicate size zero
 gathered plus zero size key amount (a ∷ rest) =
     let sums = gathered plus zero size key amount rest in

@@ -11,7 +11,7 @@ pub type Place = usize; // in the sheet, in bytes from its start
 #[derive(Drop)]
 pub struct Line {
     pub count: usize, // fields
-    pub ends: [Place; 10],
+    pub ends: [Place; 10], // fixed memory, so of the first ten alone
     pub next: Place,
 }
 

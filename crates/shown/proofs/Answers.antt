@@ -24,21 +24,25 @@ refusal_short number line n l =
     omega (arith, line_length fields (omega arith), digits_length number 1 n, digits_length line 4 l)
 
 -- What is shown of an answer fits 32,768 bytes
-pub shown_fits : (a : Answer) → IsAnswer 13 a → length (shown_text a) ≤ 32_768
+shown_fits : (a : Answer) → IsAnswer 13 a → length (shown_text a) ≤ 32_768
 shown_fits (refused number line) (low, high, below) = refusal_short number line (omega arith) (omega arith)
 shown_fits (accepted report) fits = fits
 
 -- What is written at a buffer's start, and fits it, is counted in it
-pub counted : (t b : Text) (next : Place) (after : Text) → length t ≤ length b → Wrote t 0 b next after → IsPrefixLen next after
+counted : (t b : Text) (next : Place) (after : Text) → length t ≤ length b → Wrote t 0 b next after → IsPrefixLen next after
 counted t b next after h w =
     let long : length after ≡ length b = ap length w.1 ∙ written_length t 0 b (omega arith) in
     let low : next ≤ length after = omega (arith, w.0) in
     (low, sym (length-take-le next after low))
 
--- What a number and a buffer that an answer hands back tell of it
-module _ (a : Answer) (is : IsAnswer 13 a) (buffer : Text) {number : ℕ} {left : Text} (given : ◌≡◌ {A = ℕ × Text} (number, left) (handed_back a buffer)) where
+-- What a number and a buffer that an answer hands back tell of it, where the buffer has room for it
+module _ (a : Answer) (is : IsAnswer 13 a) (buffer : Text) (long : 32_768 ≤ length buffer) {number : ℕ} {left : Text} (given : ◌≡◌ {A = ℕ × Text} (number, left) (handed_back a buffer)) where
+  -- Its text fits the buffer
+  fits : length (shown_text a) ≤ length buffer
+  fits = omega (arith, shown_fits a is, long)
+
   -- The number is that of a refusal 1..13, or below 65,536
-  pub number_low : number / 65_536 < 100
+  number_low : number / 65_536 < 100
   number_low = go a is given
     where
       go : (a : Answer) → IsAnswer 13 a → ◌≡◌ {A = ℕ × Text} (number, left) (handed_back a buffer) → number / 65_536 < 100
@@ -46,16 +50,20 @@ module _ (a : Answer) (is : IsAnswer 13 a) (buffer : Text) {number : ℕ} {left 
       go (accepted report) fits same = omega (arith, ap (λ (x : ℕ × Text). x.0) same, fits)
 
   -- The buffer is as long as it was
-  pub left_long : length (shown_text a) ≤ length buffer → length left ≡ length buffer
-  left_long room = go a given room
+  left_long : length left ≡ length buffer
+  left_long = go a given fits
     where
       go : (a : Answer) → ◌≡◌ {A = ℕ × Text} (number, left) (handed_back a buffer) → length (shown_text a) ≤ length buffer → length left ≡ length buffer
       go (refused n l) same room = ap (λ (x : ℕ × Text). length x.1) same
       go (accepted report) same room =
           ap (λ (x : ℕ × Text). length x.1) same ∙ omega (arith, length-append report (drop (length report) buffer), length-drop (length report) buffer)
 
+  -- So `tell` may be asked
+  pub tellable : (32_768 ≤ length left) × (number / 65_536 < 100)
+  tellable = (omega (arith, long, left_long), number_low)
+
   -- What is told by it is the answer's text, at the buffer's start
-  pub told_shown : {next : Place} {after : Text} → Told number left next after → Wrote (shown_text a) 0 buffer next after
+  told_shown : {next : Place} {after : Text} → Told number left next after → Wrote (shown_text a) 0 buffer next after
   told_shown {next} {after} told = go a is given
     where
       go : (a : Answer) → IsAnswer 13 a → ◌≡◌ {A = ℕ × Text} (number, left) (handed_back a buffer) → Wrote (shown_text a) 0 buffer next after
@@ -70,3 +78,7 @@ module _ (a : Answer) (is : IsAnswer 13 a) (buffer : Text) {number : ℕ} {left 
           let counted : length report ≡ 0 + length report = omega arith in
           let text : (next ≡ number) × (after ≡ left) = rw (lt-ltb number 65_536 (omega (arith, whole, fits)), Told) at told in
           (text.0 ∙ whole ∙ counted, text.1 ∙ ap (λ (x : ℕ × Text). x.1) same ∙ ap (λ (n : ℕ). report ++ drop n buffer) counted)
+
+  -- ... and is counted in it
+  pub shown : {next : Place} {after : Text} → Told number left next after → Wrote (shown_text a) 0 buffer next after × IsPrefixLen next after
+  shown told = (told_shown told, counted (shown_text a) buffer _ _ fits (told_shown told))

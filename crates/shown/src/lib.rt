@@ -8,6 +8,8 @@ ghost use Rattle.lines.specs.Written.{Wrote};
 ghost use Rattle.shown.specs.Shown.{Told, shown_text};
 
 // What an entry's number tells: the length of the text that stands at the start, or a refusal, whose line is then written there.
+// A number stays, since it is what the entries give, for C.
+#[tactic(auto, using(crate::proofs::Answers::refusal_short))]
 fn tell(
     number: u64, // of an entry
     out: &mut [u8],
@@ -16,9 +18,10 @@ fn tell(
     ensures { Told number out.old result out.new }
 {
     if number < 65536 {
-        return number as usize;
+        number as usize
+    } else {
+        lines::refusal_line(out, 0, number / 65536, number % 65536)
     }
-    lines::refusal_line(out, 0, number / 65536, number % 65536)
 }
 
 // The number that the kit gives for a sheet, by the entry of the listing.
@@ -30,12 +33,14 @@ fn ask(
     ensures { (result, out.new) ≡ kit full sheet.now out.old }
 {
     if full {
-        return kit::brm_margin_full(sheet, out);
+        kit::brm_margin_full(sheet, out)
+    } else {
+        kit::brm_margin(sheet, out)
     }
-    kit::brm_margin(sheet, out)
 }
 
 // The text of the kit's answer to a sheet, at the start of the lent bytes; gives its length.
+// No slice of them is given, since `written` says what each of the lent bytes is afterwards.
 pub fn show(
     sheet: &[u8],
     out: &mut [u8],

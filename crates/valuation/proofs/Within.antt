@@ -48,6 +48,9 @@ worth_within t s r q = worth_most t.nominal (quote_on s t.accrual) r.nominal (qu
 pub sign_one : (t : Trade) → nat_abs (sign_in t) ≡ 1
 sign_one t = sign_size (trade_of t.trade) (side_of t.side)
 
+-- What valuing a trade asks for
+pub ruleset within = (quote_within, interest_within, worth_within, sign_one)
+
 -- Both figures of a trade, margined or not, in size: cents
 pub value_within : (t : Trade) (s : Security) → (t.margined ≡ true → Ranged t × Quoted s t.accrual)
     → (nat_abs (value_of t s).worth ≤ most_worth) × (nat_abs (value_of t s).mark ≤ most_mark)

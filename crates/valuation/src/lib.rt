@@ -73,16 +73,10 @@ pub fn sign_of(
 ) -> Sign
     ensures { result ≡ sign_of (trade_of trade) (side_of side) }
 {
-    if trade == 1 {
-        if side == 1 {
-            return 1;
-        }
-        return whole::negative(1);
+    match (trade == 1, side == 1) {
+        (true, true) | (false, false) => 1, // cash's purchaser, a repo's seller
+        (true, false) | (false, true) => -1, // cash's seller, a repo's purchaser
     }
-    if side == 1 {
-        return whole::negative(1);
-    }
-    1
 }
 
 // Mark-to-market: (revaluated - amount - 100 × interest) × sign.
@@ -101,6 +95,7 @@ pub fn mark_to_market(
 }
 
 // Price and coupon accrued on a day of the coupon period.
+#[tactic(auto, using(crate::proofs::Within::quote_within))]
 fn quote_on(security: Security, day: Day) -> Quote
     requires { Quoted security day }
     ensures { result ≡ quote_on security day }
@@ -129,6 +124,7 @@ fn interest_of(trade: Trade) -> SignedWhole
 }
 
 // The figures of a trade in its security.
+#[tactic(auto, using(crate::proofs::Within::within))]
 pub fn value_of(trade: Trade, security: Security) -> Valued
     requires { trade.margined ≡ true → Ranged trade × Quoted security trade.accrual }
     ensures { result ≡ value_of trade security }

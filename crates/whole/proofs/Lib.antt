@@ -1,2 +1,1 @@
 pub mod Signs
-mod Parts

@@ -7,6 +7,7 @@ ghost use Rattle.paper.specs.Rounding.{nearest as nearest_of, rounded as rounded
 ghost use Rattle.paper.specs.Signs.{above_zero, below_zero};
 
 // To the nearest, by quotient and remainder; a tie goes up. Nothing is added to the product, so any will do.
+#[tactic(auto, using(paper::proofs::Rounding::nearest_less, paper::proofs::Rounding::nearest_tie, paper::proofs::Rounding::nearest_more))]
 pub fn nearest(
     product: u64, // any unit
     divisor: u64, // any unit
@@ -86,6 +87,7 @@ pub fn below_zero(
 }
 
 // To the nearest, a tie away from zero: the size is rounded and its sign put back.
+#[tactic(auto, using(paper::proofs::Rounding::rounded_pos, paper::proofs::Rounding::rounded_negsuc, paper::proofs::Rounding::nearest_below))]
 pub fn rounded(
     product: i64, // any unit
     divisor: u64, // any unit

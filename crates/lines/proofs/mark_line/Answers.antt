@@ -11,7 +11,7 @@ pub returns : goal.returns
 returns c =
     let fields = ascii "M" ∷ digits c.args.line ∷ money_text c.args.money ∷ signed_digits c.args.mark ∷ [] in
     let all = all_left fields c.args.at c.args.report.now c.requires.room in
-    let rest₁ = others_left all c.put_two-first.ensures in
+    let rest₁ = others_left all c.put-first.ensures in
     let rest₂ = others_left rest₁ c.put_field-second.ensures in
     let rest₃ = others_left rest₂ c.put_currency-third.ensures in
     rest₃.whole (rw (to_z-of_z w64 c.args.mark c.ranges.mark) at c.put_signed_field.ensures)

@@ -9,7 +9,7 @@ pub put_field-requires : goal.put_field-requires
 put_field-requires c =
     let fields = ascii "K" ∷ money_text c.args.money ∷ digits c.args.class ∷ digits c.args.long ∷ digits c.args.short ∷ digits c.args.margin ∷ [] in
     let all = all_left fields c.args.at c.args.report.now c.requires.room in
-    let rest₁ = others_left all c.put_two-first.ensures in
+    let rest₁ = others_left all c.put-first.ensures in
     let rest₂ = others_left rest₁ c.put_currency-second.ensures in
     let rest₃ = others_left rest₂ c.put_field-third.ensures in
     let rest₄ = others_left rest₃ c.put_field-fourth.ensures in
@@ -20,7 +20,7 @@ pub returns : goal.returns
 returns c =
     let fields = ascii "K" ∷ money_text c.args.money ∷ digits c.args.class ∷ digits c.args.long ∷ digits c.args.short ∷ digits c.args.margin ∷ [] in
     let all = all_left fields c.args.at c.args.report.now c.requires.room in
-    let rest₁ = others_left all c.put_two-first.ensures in
+    let rest₁ = others_left all c.put-first.ensures in
     let rest₂ = others_left rest₁ c.put_currency-second.ensures in
     let rest₃ = others_left rest₂ c.put_field-third.ensures in
     let rest₄ = others_left rest₃ c.put_field-fourth.ensures in

@@ -1,5 +1,4 @@
--- `lines::put_code` meets its contract. The loop's invariant: the bytes left and those written behind them are the text. The measure
--- is the bytes left.
+-- `lines::put_code` meets its contract. The loop's invariant: the bytes left and those written behind them are the text.
 use Prim.Native.Nat.{ℕ, suc, ◌+◌, ◌-◌, ◌/◌, ◌%◌}
 use native.Mathlib.Nat.{add-zero, add-suc}
 use native.Mathlib.Omega.{arith}
@@ -37,12 +36,12 @@ pub loop-i-preserved : goal.loop-i-preserved
 loop-i-preserved c =
     let l = c.loop-i in
     let more : l.i ≡ suc (l.i - 1) = omega arith in
-    (omega arith, one_more (rw more at l.invariant.1))
+    one_more (rw more at l.invariant)
 
 pub returns : goal.returns
 returns c =
     let n = c.args.code in
     let none : c.loop-i.i ≡ 0 = omega arith in
     joined (parts (spelled 11 (n / 10) []) ((48 + n % 10) ∷ semicolon ∷ [])) _ _ c.requires
-    (refl, none_left (rw none at c.loop-i.invariant.1))
-    c.put_two.ensures
+    (refl, none_left (rw none at c.loop-i.invariant))
+    c.put.ensures

@@ -1,5 +1,4 @@
--- `lines::put_code` meets its contract. The loop's invariant: the bytes left and those written behind them are the text. The measure
--- is the bytes left.
+-- `lines::put_code` meets its contract. The loop's invariant: the bytes left and those written behind them are the text.
 use Prim.Native.Nat.{ℕ, ◌+◌, ◌/◌, ◌≤◌}
 use mathlib.Core.List.{[]}
 use mathlib.Core.Path.{◌≡◌}
@@ -16,7 +15,4 @@ pub record Ended (text : Text) (at : Place) (b : Text) (many n : ℕ) (after : T
   pub there : after ≡ written end (at + many) b
 
 abbrev pub invariant-loop-i : goal.invariant-loop-i
-invariant-loop-i l = (l.i ≤ 11) × Ended (spelled 11 (l.code / 10) []) l.at l.initial.report l.i l.n l.report
-
-abbrev pub decreases-loop-i : goal.decreases-loop-i
-decreases-loop-i l = l.i
+invariant-loop-i l = Ended (spelled 11 (l.code / 10) []) l.at l.initial.report l.i l.n l.report

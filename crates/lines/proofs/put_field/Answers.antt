@@ -6,4 +6,4 @@ use Rattle.lines.proofs.put_field.Goals as goal
 
 pub returns : goal.returns
 returns c =
-    joined (parts (digits c.args.n) (c.args.end ∷ [])) _ _ c.requires c.put_number-behind.ensures c.put_byte.ensures
+    joined (parts (digits c.args.n) (c.args.end ∷ [])) _ _ c.requires c.put_number-behind.ensures c.put.ensures

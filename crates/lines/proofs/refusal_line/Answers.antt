@@ -8,6 +8,6 @@ pub returns : goal.returns
 returns c =
     let fields = ascii "N" ∷ digits c.args.number ∷ digits c.args.line ∷ [] in
     let all = all_left fields c.args.at c.args.report.now c.requires in
-    let rest₁ = others_left all c.put_two-first.ensures in
+    let rest₁ = others_left all c.put-first.ensures in
     let rest₂ = others_left rest₁ c.put_field-second.ensures in
     rest₂.whole c.put_field.ensures

@@ -10,7 +10,7 @@ use Rattle.lines.proofs.security_line.Goals as goal
 pub returns : goal.returns
 returns c =
     let fields = ascii "P" ∷ code_text c.args.code ∷ signed_digits c.args.net ∷ [] in
-    let all = all_left fields c.args.at c.args.report.now c.requires.room in
-    let rest₁ = others_left all c.put_two-first.ensures in
+    let all = all_left fields c.args.at c.args.report.now c.requires in
+    let rest₁ = others_left all c.put-first.ensures in
     let rest₂ = others_left rest₁ c.put_code-second.ensures in
     rest₂.whole (rw (to_z-of_z w64 c.args.net c.ranges.net) at c.put_signed_field.ensures)

@@ -10,8 +10,8 @@ pub returns : goal.returns
 returns c =
     let amount = max c.args.long c.args.short in
     let fields = ascii "B" ∷ setter_letter (setter_of c.args.long c.args.short) ∷ digits amount ∷ [] in
-    let rest₁ : Left (line_of fields) c.args.at c.args.report.now ((c.setter_letter.result ∷ []) ∷ digits amount ∷ []) c.put_two-first.result c.put_two-first.new.report =
-    rw c.setter_letter.ensures (others_left (all_left fields c.args.at c.args.report.now c.requires) c.put_two-first.ensures) in
-    let rest₂ : Left (line_of fields) c.args.at c.args.report.now (digits c.greatest.result ∷ []) c.put_two-second.result c.put_two-second.new.report =
-    rw c.greatest.ensures (others_left rest₁ c.put_two-second.ensures) in
+    let rest₁ : Left (line_of fields) c.args.at c.args.report.now ((c.setter_letter.result ∷ []) ∷ digits amount ∷ []) c.put-first.result c.put-first.new.report =
+    rw c.setter_letter.ensures (others_left (all_left fields c.args.at c.args.report.now c.requires) c.put-first.ensures) in
+    let rest₂ : Left (line_of fields) c.args.at c.args.report.now (digits c.max.result ∷ []) c.put-second.result c.put-second.new.report =
+    rw c.max.ensures (others_left rest₁ c.put-second.ensures) in
     rest₂.whole c.put_field.ensures

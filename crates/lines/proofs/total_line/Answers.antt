@@ -11,7 +11,7 @@ pub returns : goal.returns
 returns c =
     let fields = ascii "Z" ∷ money_text c.args.money ∷ signed_digits c.args.mark ∷ digits c.args.initial ∷ digits c.args.total ∷ [] in
     let all = all_left fields c.args.at c.args.report.now c.requires.room in
-    let rest₁ = others_left all c.put_two-first.ensures in
+    let rest₁ = others_left all c.put-first.ensures in
     let rest₂ = others_left rest₁ c.put_currency-second.ensures in
     let rest₃ = others_left rest₂ (rw (to_z-of_z w64 c.args.mark c.ranges.mark) at c.put_signed_field-third.ensures) in
     let rest₄ = others_left rest₃ c.put_field-fourth.ensures in

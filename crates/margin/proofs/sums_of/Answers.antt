@@ -1,16 +1,16 @@
--- `margin::sums_of` meets its contract. The loop's invariant: the marks from `i` on stand in their places, and the sums are those
--- of the trades from `i` on. The measure is the trades left.
+-- `margin::sums_of` meets its contract: the trade of a turn is placed, and its figures fit the sums of those behind it.
 use Prim.Native.Nat.{ℕ, ◌+◌, ◌-◌, ◌≤◌, ◌<◌, ◌^◌}
 use native.Mathlib.Omega.{arith}
 use mathlib.Core.List.{List}
 use mathlib.Core.Path.{◌≡◌, ap, ◌∙◌}
 use lib.IntN.{ℤ, pos, nat_abs, ◌+ℤ◌}
-use lib.ListN.{length, get_or, take, drop, length-drop}
-use lib.Seq.{length-take-le}
+use lib.ListN.{length, get_or, drop, length-drop}
+use lib.Seq.{drop-length}
 use mir.Syntax.{w64}
 use mir.Val.{to_z, of_z}
 use Rattle.paper.specs.Lists.{Each}
 use Rattle.paper.specs.Bounds.{most_worth, most_mark, most_net_cents, most_mark_sum}
+use Rattle.paper.proofs.Lists.{each_at}
 use Rattle.whole.proofs.Signs.{read_back}
 use Rattle.tables.specs.Held.{no_trade}
 use Rattle.tables.specs.declared.Security.{Security}
@@ -18,19 +18,18 @@ use Rattle.tables.specs.declared.Trade.{Trade}
 use Rattle.valuation.specs.declared.Valued.{Valued}
 use Rattle.valuation.proofs.Within.{value_within}
 use Rattle.margin.specs.Sums.{security_in, value_in, sums_of, Placed}
-use Rattle.margin.proofs.Backwards.{each_drop, drop_all, rows_before, each_before, made_none, made_more, made_all}
+use Rattle.margin.proofs.Backwards.{each_drop, drop_before, made_none, made_more, made_all}
 use Rattle.margin.proofs.Values.{worths_most, totals_most}
 use Rattle.margin.proofs.Gathered.{gathered_length, gathered_more}
 use Rattle.margin.proofs.sums_of.Goals as goal
 
-module _ (trades : List Trade) (count : ℕ) (ss : List Security) (most : count ≤ 500) (fits : count ≤ length trades)
-    (each : Each (Placed ss) (take count trades)) (i : ℕ) where
+module _ (trades : List Trade) (ss : List Security) (most : length trades ≤ 500) (each : Each (Placed ss) trades) (i : ℕ) where
   -- The trades that the sums so far are of
   abbrev rest : List Trade
-  rest = drop i (take count trades)
+  rest = drop i trades
 
   few : length rest ≤ 500
-  few = omega (arith, length-drop i (take count trades), length-take-le count trades fits)
+  few = omega (arith, length-drop i trades)
 
   -- The sums so far have their places and are within the table of bounds, in size: cents
   worths_fit : {worths : List ℤ} → worths ≡ (sums_of ss rest).worths → (length worths ≡ 200) × ((k : ℕ) → nat_abs (get_or worths k (pos 0)) ≤ most_net_cents)
@@ -39,13 +38,13 @@ module _ (trades : List Trade) (count : ℕ) (ss : List Security) (most : count 
   totals_fit : {totals : List ℤ} → totals ≡ (sums_of ss rest).totals → (length totals ≡ 8) × ((k : ℕ) → nat_abs (get_or totals k (pos 0)) ≤ most_mark_sum)
   totals_fit e = rw e (gathered_length ◌+ℤ◌ (pos 0) 8 _ _ rest, totals_most ss few (each_drop i each))
 
-  module _ (low : 0 < i) (high : i ≤ count) where
+  module _ (low : 0 < i) (high : i ≤ length trades) where
     -- The trade of a turn has its security and currency in their places
     abbrev trade : Trade
     trade = get_or trades (i - 1) no_trade
 
     placed : Placed ss trade
-    placed = each_before trades count fits no_trade each i low high
+    placed = each_at (i - 1) no_trade each (omega arith)
 
     -- Its figures are within the table of bounds, so that a local holds them: cents
     within : (nat_abs (value_in ss trade).worth ≤ most_worth) × (nat_abs (value_in ss trade).mark ≤ most_mark)
@@ -73,63 +72,54 @@ module _ (trades : List Trade) (count : ℕ) (ss : List Security) (most : count 
 
 pub loop-i-init : goal.loop-i-init
 loop-i-init c =
-    let a = c.args in
-    let fits : a.count ≤ length a.trades = omega arith in
-    let none = drop_all a.trades a.count fits in (
-      omega arith,
-      made_none a.trades a.count fits no_trade (λ t. (value_in a.securities t).mark) 500 (pos 0) c.requires.0,
-      rw none,
-      rw none,
-    )
+    let none = drop-length c.args.trades.now in
+    record {
+      marks = made_none (λ t. (value_in c.args.securities.now t).mark) c.args.trades.now no_trade 500 (pos 0) c.requires.0;
+      worths = rw none;
+      totals = rw none;
+    }
 
 pub bounds-securities-place : goal.bounds-securities-place
-bounds-securities-place c =
-    let a = c.args in
-    (placed a.trades a.count a.securities c.requires.0 (omega arith) c.requires.1 c.loop-i.i c.loop-i-test.true c.loop-i.invariant.0).security
+bounds-securities-place c = (each_at (c.loop-i.i - 1) no_trade c.requires.1 (omega arith)).security
 
 pub value_of-valued-requires : goal.value_of-valued-requires
-value_of-valued-requires c =
-    let a = c.args in
-    (placed a.trades a.count a.securities c.requires.0 (omega arith) c.requires.1 c.loop-i.i c.loop-i-test.true c.loop-i.invariant.0).ranged
+value_of-valued-requires c = (each_at (c.loop-i.i - 1) no_trade c.requires.1 (omega arith)).ranged
 
 pub add_to-requires : goal.add_to-requires
 add_to-requires c =
-    let a = c.args in
-    worth_adds a.trades a.count a.securities c.requires.0 (omega arith) c.requires.1 c.loop-i.i c.loop-i-test.true c.loop-i.invariant.0
+    worth_adds c.args.trades.now c.args.securities.now c.requires.0 c.requires.1 c.loop-i.i c.loop-i-test.true c.loop-i.auto.i
     c.value_of-valued.ensures
-    c.loop-i.invariant.2
+    c.loop-i.invariant.worths
 
 pub add_to-requires-in-loop-i : goal.add_to-requires-in-loop-i
 add_to-requires-in-loop-i c =
-    let a = c.args in
-    mark_adds a.trades a.count a.securities c.requires.0 (omega arith) c.requires.1 c.loop-i.i c.loop-i-test.true c.loop-i.invariant.0
+    mark_adds c.args.trades.now c.args.securities.now c.requires.0 c.requires.1 c.loop-i.i c.loop-i-test.true c.loop-i.auto.i
     c.value_of-valued.ensures
-    c.loop-i.invariant.3
+    c.loop-i.invariant.totals
 
 pub loop-i-preserved : goal.loop-i-preserved
 loop-i-preserved c =
-    let a = c.args in
+    let ts = c.args.trades.now in
+    let ss = c.args.securities.now in
     let l = c.loop-i in
     let low = c.loop-i-test.true in
-    let ss = a.securities in
-    let own = get_or a.trades (l.i - 1) no_trade in
-    let fits : a.count ≤ length a.trades = omega arith in
-    let worth = worth_is a.trades a.count ss c.requires.0 fits c.requires.1 l.i low l.invariant.0 c.value_of-valued.ensures in
-    let mark = mark_is a.trades a.count ss c.requires.0 fits c.requires.1 l.i low l.invariant.0 c.value_of-valued.ensures in
-    let front = rows_before a.trades a.count fits no_trade l.i low l.invariant.0 in (
-      omega arith,
-      made_more a.trades a.count fits no_trade (λ t. (value_in ss t).mark) 500 (pos 0) c.requires.0 l.i l.marks _ l.invariant.1 low l.invariant.0 mark,
-      c.add_to.ensures ∙ gathered_more ◌+ℤ◌ (pos 0) 200 _ _ own l.invariant.2 worth front,
-      c.add_to-in-loop-i.ensures ∙ gathered_more ◌+ℤ◌ (pos 0) 8 _ _ own l.invariant.3 mark front,
-    )
+    let own = get_or ts (l.i - 1) no_trade in
+    let worth = worth_is ts ss c.requires.0 c.requires.1 l.i low l.auto.i c.value_of-valued.ensures in
+    let mark = mark_is ts ss c.requires.0 c.requires.1 l.i low l.auto.i c.value_of-valued.ensures in
+    let front = drop_before ts l.i no_trade low l.auto.i in
+    record {
+      marks = made_more (λ t. (value_in ss t).mark) ts no_trade 500 (pos 0) c.requires.0 l.i l.sums.marks _ l.invariant.marks low l.auto.i mark;
+      worths = c.add_to.ensures ∙ gathered_more ◌+ℤ◌ (pos 0) 200 _ _ own l.invariant.worths worth front;
+      totals = c.add_to-in-loop-i.ensures ∙ gathered_more ◌+ℤ◌ (pos 0) 8 _ _ own l.invariant.totals mark front;
+    }
 
 pub returns : goal.returns
 returns c =
-    let a = c.args in
+    let ts = c.args.trades.now in
+    let ss = c.args.securities.now in
     let l = c.loop-i in
-    let fits : a.count ≤ length a.trades = omega arith in
     let none : l.i ≡ 0 = omega arith in
-    let marks = l.invariant.1 ∙ made_all a.trades a.count fits no_trade (λ t. (value_in a.securities t).mark) 500 (pos 0) c.requires.0 l.i none in
-    let worths = l.invariant.2 ∙ ap (λ (i : ℕ). (sums_of a.securities (drop i (take a.count a.trades))).worths) none in
-    let totals = l.invariant.3 ∙ ap (λ (i : ℕ). (sums_of a.securities (drop i (take a.count a.trades))).totals) none in
+    let marks = l.invariant.marks ∙ made_all (λ t. (value_in ss t).mark) ts no_trade 500 (pos 0) c.requires.0 l.i none in
+    let worths = l.invariant.worths ∙ ap (λ (i : ℕ). (sums_of ss (drop i ts)).worths) none in
+    let totals = l.invariant.totals ∙ ap (λ (i : ℕ). (sums_of ss (drop i ts)).totals) none in
     λ i. record { marks = marks i; worths = worths i; totals = totals i }

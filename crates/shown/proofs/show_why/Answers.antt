@@ -1,44 +1,17 @@
 -- `shown::show_why` meets its contract: what the number of the explanation tells.
-use Prim.Native.Nat.{ℕ, ◌/◌, ◌≤◌, ◌<◌}
-use native.Mathlib.Omega.{arith}
-use mathlib.Core.Path.{◌≡◌, refl, ◌∙◌}
+use mathlib.Core.Path.{refl, ◌∙◌}
 use lib.ListN.{length}
-use Rattle.paper.specs.Units.{Text, Class}
-use Rattle.paper.specs.Answer.{Answer, explained, handed_back, explainer}
 use Rattle.paper.proofs.Reasons.{explainer_answer, is_explained}
-use Rattle.paper.specs.Demands.{IsAnswer}
-use Rattle.lines.specs.Written.{Place, Wrote}
-use Rattle.shown.specs.Shown.{Told, shown_text}
-use Rattle.shown.proofs.Answers.{shown_fits, counted, number_low, left_long, told_shown}
+use Rattle.shown.proofs.Answers.{tellable, shown}
 use Rattle.shown.proofs.show_why.Goals as goal
 
--- The kit's answer
-module _ (sheet currency : Text) (class : Class) (out : Text) (long : 32_768 ≤ length out) where
-  abbrev answered : Answer
-  answered = explained (length out) sheet currency class
-
-  is_answered : IsAnswer 13 answered
-  is_answered = is_explained (length out) sheet currency class
-
-  -- Its text fits the lent bytes
-  fits : length (shown_text answered) ≤ length out
-  fits = omega (arith, shown_fits answered is_answered, long)
-
-  -- The number and the bytes are the answer's
-  module _ (number : ℕ) (left : Text) (is : ◌≡◌ {A = ℕ × Text} (number, left) (explainer currency class sheet out)) where
-    given : ◌≡◌ {A = ℕ × Text} (number, left) (handed_back answered out)
-    given = is ∙ explainer_answer currency class sheet out answered refl
-
-    tellable : (32_768 ≤ length left) × (number / 65_536 < 100)
-    tellable = (omega (arith, long, left_long answered is_answered out given fits), number_low answered is_answered out given)
-
-    written : (next : Place) (after : Text) → Told number left next after → Wrote (shown_text answered) 0 out next after
-    written next after told = told_shown answered is_answered out given told
-
 pub tell-requires : goal.tell-requires
-tell-requires c = tellable c.args.sheet.now c.args.currency.now c.args.class c.args.out.now c.requires c.brm_explain-number.result c.brm_explain-number.new.report c.brm_explain-number.ensures
+tell-requires c =
+    let is = is_explained (length c.args.out.now) c.args.sheet.now c.args.currency.now c.args.class in
+    tellable _ is c.args.out.now c.requires (c.brm_explain-number.ensures ∙ explainer_answer c.args.currency.now c.args.class c.args.sheet.now c.args.out.now _ refl)
 
 pub returns : goal.returns
 returns c =
-    let w = written c.args.sheet.now c.args.currency.now c.args.class c.args.out.now c.requires c.brm_explain-number.result c.brm_explain-number.new.report c.brm_explain-number.ensures _ _ c.tell.ensures in
-    record { written = w; prefix = counted (shown_text (answered c.args.sheet.now c.args.currency.now c.args.class c.args.out.now c.requires)) c.args.out.now _ _ (fits c.args.sheet.now c.args.currency.now c.args.class c.args.out.now c.requires) w }
+    let is = is_explained (length c.args.out.now) c.args.sheet.now c.args.currency.now c.args.class in
+    let s = shown _ is c.args.out.now c.requires (c.brm_explain-number.ensures ∙ explainer_answer c.args.currency.now c.args.class c.args.sheet.now c.args.out.now _ refl) c.tell.ensures in
+    record { written = s.0; prefix = s.1 }
