@@ -1,10 +1,10 @@
 -- Every public function of every crate: two answers that its contract allows are equal. The functions that are lent what they
--- write fix that too.
+-- write fix that too. What reads fixes what is read of a reader whose bytes are known.
 use Prim.Native.Nat.{ℕ}
 use Rattle.offsetting.specs.Books.{book_of}
 use Rattle.paper.specs.Units.{Text}
 use Rattle.lines.specs.Written.{Place}
-use Rattle.contracts.proofs.Fixed.{FixesSeen, Fixes, one, both}
+use Rattle.contracts.proofs.Fixed.{FixesSeen, Fixes, FixesRead, one, both}
 use Rattle.whole.proofs.nearest.Reads as whole_nearest
 use Rattle.whole.proofs.least.Reads as whole_least
 use Rattle.whole.proofs.greatest.Reads as whole_greatest
@@ -16,6 +16,7 @@ use Rattle.whole.proofs.rounded.Reads as whole_rounded
 use Rattle.whole.proofs.sum.Reads as whole_sum
 use Rattle.whole.proofs.difference.Reads as whole_difference
 use Rattle.whole.proofs.product.Reads as whole_product
+use Rattle.answers.proofs.Refusal.number.Reads as answers_Refusal_number
 use Rattle.days.proofs.day_of.Reads as days_day_of
 use Rattle.days.proofs.follows.Reads as days_follows
 use Rattle.days.proofs.weekday.Reads as days_weekday
@@ -34,32 +35,25 @@ use Rattle.tables.proofs.ranked.Reads as tables_ranked
 use Rattle.tables.proofs.inserted.Reads as tables_inserted
 use Rattle.places.proofs.ended.Reads as places_ended
 use Rattle.places.proofs.line_at.Reads as places_line_at
-use Rattle.fields.proofs.number_at.Reads as fields_number_at
-use Rattle.fields.proofs.ranged_in.Reads as fields_ranged_in
-use Rattle.fields.proofs.rate_at.Reads as fields_rate_at
-use Rattle.fields.proofs.duration_at.Reads as fields_duration_at
-use Rattle.fields.proofs.date_at.Reads as fields_date_at
-use Rattle.fields.proofs.day_at.Reads as fields_day_at
-use Rattle.fields.proofs.kind_at.Reads as fields_kind_at
-use Rattle.fields.proofs.letter_at.Reads as fields_letter_at
-use Rattle.codes.proofs.is_within.Reads as codes_is_within
-use Rattle.codes.proofs.code_at.Reads as codes_code_at
-use Rattle.codes.proofs.currency_at.Reads as codes_currency_at
-use Rattle.codes.proofs.currency_in.Reads as codes_currency_in
-use Rattle.places.proofs.is_blank.Reads as places_is_blank
-use Rattle.fields.proofs.is_read.Reads as fields_is_read
-use Rattle.fields.proofs.is_rate.Reads as fields_is_rate
+use Rattle.fields.proofs.number.Reads as fields_number
+use Rattle.fields.proofs.rate.Reads as fields_rate
+use Rattle.fields.proofs.duration.Reads as fields_duration
+use Rattle.fields.proofs.date.Reads as fields_date
+use Rattle.fields.proofs.day.Reads as fields_day
+use Rattle.fields.proofs.kind.Reads as fields_kind
+use Rattle.fields.proofs.letter.Reads as fields_letter
+use Rattle.codes.proofs.code.Reads as codes_code
+use Rattle.codes.proofs.currency.Reads as codes_currency
+use Rattle.places.proofs.Line.field.Reads as places_Line_field
 use Rattle.sections.proofs.goes_on.Reads as sections_goes_on
 use Rattle.classes.proofs.class_section.Reads as classes_class_section
-use Rattle.classes.proofs.columns_of.Reads as classes_columns_of
 use Rattle.classes.proofs.class_of.Reads as classes_class_of
 use Rattle.priorities.proofs.priority_section.Reads as priorities_priority_section
 use Rattle.priorities.proofs.known_classes.Reads as priorities_known_classes
 use Rattle.securities.proofs.security_section.Reads as securities_security_section
 use Rattle.trades.proofs.trade_section.Reads as trades_trade_section
-use Rattle.head.proofs.header_number.Reads as head_header_number
+use Rattle.head.proofs.header.Reads as head_header
 use Rattle.head.proofs.date_row.Reads as head_date_row
-use Rattle.head.proofs.date_number.Reads as head_date_number
 use Rattle.sheet.proofs.read_sheet.Reads as sheet_read_sheet
 use Rattle.valuation.proofs.accrued.Reads as valuation_accrued
 use Rattle.valuation.proofs.revaluated.Reads as valuation_revaluated
@@ -68,8 +62,8 @@ use Rattle.valuation.proofs.sign_of.Reads as valuation_sign_of
 use Rattle.valuation.proofs.mark_to_market.Reads as valuation_mark_to_market
 use Rattle.valuation.proofs.value_of.Reads as valuation_value_of
 use Rattle.offsetting.proofs.share.Reads as offsetting_share
-use Rattle.offsetting.proofs.offset_row.Reads as offsetting_offset_row
-use Rattle.offsetting.proofs.offset_all.Reads as offsetting_offset_all
+use Rattle.offsetting.proofs.Book.offset_row.Reads as offsetting_Book_offset_row
+use Rattle.offsetting.proofs.Book.offset_all.Reads as offsetting_Book_offset_all
 use Rattle.margin.proofs.figures_of.Reads as margin_figures_of
 use Rattle.margin.proofs.opening_of.Reads as margin_opening_of
 use Rattle.lines.proofs.mark_line.Reads as lines_mark_line
@@ -87,6 +81,9 @@ use Rattle.kit.proofs.brm_margin_full.Reads as kit_brm_margin_full
 use Rattle.kit.proofs.brm_explain.Reads as kit_brm_explain
 use Rattle.shown.proofs.show.Reads as shown_show
 use Rattle.shown.proofs.show_why.Reads as shown_show_why
+use Rattle.given.proofs.is_there.Reads as given_is_there
+use Rattle.given.proofs.word.Reads as given_word
+use Rattle.given.proofs.read_full.Reads as given_read_full
 
 pub whole_nearest_fixed : Fixes whole_nearest.Post
 whole_nearest_fixed κs a x y s u p q = one p q
@@ -121,6 +118,9 @@ whole_difference_fixed κs a x y s u p q = one p q
 pub whole_product_fixed : Fixes whole_product.Post
 whole_product_fixed κs a x y s u p q = one p q
 
+pub answers_Refusal_number_fixed : Fixes answers_Refusal_number.Post
+answers_Refusal_number_fixed κs a x y s u p q = one p q
+
 pub days_day_of_fixed : Fixes days_day_of.Post
 days_day_of_fixed κs a x y s u p q = one p q
 
@@ -136,7 +136,7 @@ days_is_open_fixed κs a x y s u p q = one p q
 pub days_working_after_fixed : Fixes days_working_after.Post
 days_working_after_fixed κs a x y s u p q = one p q
 
-pub days_new_years_fixed : Fixes days_new_years.Post
+pub days_new_years_fixed : FixesSeen days_new_years.Post (λ κs x s. x.now)
 days_new_years_fixed κs a x y s u p q = one p q
 
 pub tables_no_security_fixed : Fixes tables_no_security.Post
@@ -175,59 +175,41 @@ places_ended_fixed κs a x y s u p q = one p q
 pub places_line_at_fixed : Fixes places_line_at.Post
 places_line_at_fixed κs a x y s u p q = one p q
 
-pub fields_number_at_fixed : Fixes fields_number_at.Post
-fields_number_at_fixed κs a x y s u p q = one p q
+pub fields_number_fixed : Fixes fields_number.Post
+fields_number_fixed κs a x y s u p q = one p q
 
-pub fields_ranged_in_fixed : Fixes fields_ranged_in.Post
-fields_ranged_in_fixed κs a x y s u p q = one p q
+pub fields_rate_fixed : Fixes fields_rate.Post
+fields_rate_fixed κs a x y s u p q = one p q
 
-pub fields_rate_at_fixed : Fixes fields_rate_at.Post
-fields_rate_at_fixed κs a x y s u p q = one p q
+pub fields_duration_fixed : Fixes fields_duration.Post
+fields_duration_fixed κs a x y s u p q = one p q
 
-pub fields_duration_at_fixed : Fixes fields_duration_at.Post
-fields_duration_at_fixed κs a x y s u p q = one p q
+pub fields_date_fixed : Fixes fields_date.Post
+fields_date_fixed κs a x y s u p q = one p q
 
-pub fields_date_at_fixed : Fixes fields_date_at.Post
-fields_date_at_fixed κs a x y s u p q = one p q
+pub fields_day_fixed : Fixes fields_day.Post
+fields_day_fixed κs a x y s u p q = one p q
 
-pub fields_day_at_fixed : Fixes fields_day_at.Post
-fields_day_at_fixed κs a x y s u p q = one p q
+pub fields_kind_fixed : Fixes fields_kind.Post
+fields_kind_fixed κs a x y s u p q = one p q
 
-pub fields_kind_at_fixed : Fixes fields_kind_at.Post
-fields_kind_at_fixed κs a x y s u p q = one p q
+pub fields_letter_fixed : Fixes fields_letter.Post
+fields_letter_fixed κs a x y s u p q = one p q
 
-pub fields_letter_at_fixed : Fixes fields_letter_at.Post
-fields_letter_at_fixed κs a x y s u p q = one p q
+pub codes_code_fixed : Fixes codes_code.Post
+codes_code_fixed κs a x y s u p q = one p q
 
-pub codes_is_within_fixed : Fixes codes_is_within.Post
-codes_is_within_fixed κs a x y s u p q = one p q
+pub codes_currency_fixed : Fixes codes_currency.Post
+codes_currency_fixed κs a x y s u p q = one p q
 
-pub codes_code_at_fixed : Fixes codes_code_at.Post
-codes_code_at_fixed κs a x y s u p q = one p q
-
-pub codes_currency_at_fixed : Fixes codes_currency_at.Post
-codes_currency_at_fixed κs a x y s u p q = one p q
-
-pub codes_currency_in_fixed : Fixes codes_currency_in.Post
-codes_currency_in_fixed κs a x y s u p q = one p q
-
-pub places_is_blank_fixed : Fixes places_is_blank.Post
-places_is_blank_fixed κs a x y s u p q = one p q
-
-pub fields_is_read_fixed : Fixes fields_is_read.Post
-fields_is_read_fixed κs a x y s u p q = one p q
-
-pub fields_is_rate_fixed : Fixes fields_is_rate.Post
-fields_is_rate_fixed κs a x y s u p q = one p q
+pub places_Line_field_fixed : FixesSeen places_Line_field.Post (λ κs x s. x.now)
+places_Line_field_fixed κs a x y s u p q = one p q
 
 pub sections_goes_on_fixed : Fixes sections_goes_on.Post
 sections_goes_on_fixed κs a x y s u p q = one p q
 
 pub classes_class_section_fixed : Fixes classes_class_section.Post
 classes_class_section_fixed κs a x y s u p q = one p q
-
-pub classes_columns_of_fixed : Fixes classes_columns_of.Post
-classes_columns_of_fixed κs a x y s u p q = one p q
 
 pub classes_class_of_fixed : Fixes classes_class_of.Post
 classes_class_of_fixed κs a x y s u p q = one p q
@@ -244,14 +226,11 @@ securities_security_section_fixed κs a x y s u p q = one p q
 pub trades_trade_section_fixed : Fixes trades_trade_section.Post
 trades_trade_section_fixed κs a x y s u p q = one p q
 
-pub head_header_number_fixed : Fixes head_header_number.Post
-head_header_number_fixed κs a x y s u p q = one p q
+pub head_header_fixed : Fixes head_header.Post
+head_header_fixed κs a x y s u p q = one p q
 
 pub head_date_row_fixed : Fixes head_date_row.Post
 head_date_row_fixed κs a x y s u p q = one p q
-
-pub head_date_number_fixed : Fixes head_date_number.Post
-head_date_number_fixed κs a x y s u p q = one p q
 
 pub sheet_read_sheet_fixed : Fixes sheet_read_sheet.Post
 sheet_read_sheet_fixed κs a x y s u p q = one p q
@@ -277,11 +256,11 @@ valuation_value_of_fixed κs a x y s u p q = one p q
 pub offsetting_share_fixed : Fixes offsetting_share.Post
 offsetting_share_fixed κs a x y s u p q = one p q
 
-pub offsetting_offset_row_fixed : FixesSeen offsetting_offset_row.Post (λ κs x s. book_of s.0.now s.1.0.now)
-offsetting_offset_row_fixed κs a x y s u p q = one p q
+pub offsetting_Book_offset_row_fixed : FixesSeen offsetting_Book_offset_row.Post (λ κs x s. book_of s.0.now)
+offsetting_Book_offset_row_fixed κs a x y s u p q = one p q
 
-pub offsetting_offset_all_fixed : FixesSeen offsetting_offset_all.Post (λ κs x s. book_of s.1.1.0.now s.1.1.1.0.now)
-offsetting_offset_all_fixed κs a x y s u p q = one p q
+pub offsetting_Book_offset_all_fixed : FixesSeen offsetting_Book_offset_all.Post (λ κs x s. book_of s.0.now)
+offsetting_Book_offset_all_fixed κs a x y s u p q = one p q
 
 pub margin_figures_of_fixed : Fixes margin_figures_of.Post
 margin_figures_of_fixed κs a x y s u p q = one p q
@@ -333,3 +312,12 @@ shown_show_fixed κs a x y s u p q = both p.0 q.0
 
 pub shown_show_why_fixed : FixesSeen shown_show_why.Post {B = Place × Text} (λ κs x s. (x, s.1.1.1.0.now))
 shown_show_why_fixed κs a x y s u p q = both p.0 q.0
+
+pub given_is_there_fixed : Fixes given_is_there.Post
+given_is_there_fixed κs a x y s u p q = one p q
+
+pub given_word_fixed : FixesSeen given_word.Post {B = Text} (λ κs x s. x.now)
+given_word_fixed κs a x y s u p q = one p q
+
+pub given_read_full_fixed : FixesRead given_read_full.Post
+given_read_full_fixed R laws g dict κs a x y s u bytes known p q = both (rw known at p.1.0) (rw known at q.1.0)

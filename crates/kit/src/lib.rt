@@ -5,7 +5,7 @@
 ghost use Rattle.std.specs.Prelude.{◌≡◌, ◌≤◌, IfErr};
 ghost use Rattle.paper.specs.Report.{full, quiet};
 ghost use Rattle.paper.specs.Answer.{kit, explainer};
-ghost use Rattle.kit.specs.Given.{given};
+ghost use Rattle.kit.specs.Numbers.{number_given};
 
 use answers::{Refusal, Refused};
 use lines::Place;
@@ -13,7 +13,7 @@ use lines::Place;
 // The one number of an answer.
 fn number(answer: Result<Place, Refused>) -> u64
     requires { IfErr answer (λ f. f.line ≤ 65_535) }
-    ensures { result ≡ given answer }
+    ensures { result ≡ number_given answer }
 {
     match answer {
         Ok(length) => length as u64,
@@ -27,7 +27,7 @@ fn report_on(
     report: &mut [u8],
     all: bool, // the K lines, or those that are not of zeros
 ) -> Result<Place, Refused>
-    ensures answer { (given result, report.new) ≡ kit all sheet.now report.old }
+    ensures answer { (number_given result, report.new) ≡ kit all sheet.now report.old }
     ensures small { IfErr result (λ f. f.line ≤ 65_535) }
 {
     let tables = sheet::read_sheet(sheet, report.len())?;
@@ -42,7 +42,7 @@ fn explain(
     class: u64, // any number
     report: &mut [u8],
 ) -> Result<Place, Refused>
-    ensures answer { (given result, report.new) ≡ explainer currency.now class sheet.now report.old }
+    ensures answer { (number_given result, report.new) ≡ explainer currency.now class sheet.now report.old }
     ensures small { IfErr result (λ f. f.line ≤ 65_535) }
 {
     let tables = sheet::read_sheet(sheet, report.len())?;

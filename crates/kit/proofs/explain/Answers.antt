@@ -16,7 +16,7 @@ use Rattle.sheet.specs.Whole.{held_sheet}
 use Rattle.answers.specs.Refusals.{number_of}
 use Rattle.answers.specs.declared.Refused.{Refused}
 use Rattle.std.proofs.Common.{Result, Ok, Err, Option, Some, None}
-use Rattle.kit.specs.Given.{given}
+use Rattle.kit.specs.Numbers.{number_given}
 use Rattle.tables.specs.Held.{held_tables}
 use Rattle.tables.specs.Back.{ranged}
 use Rattle.tables.specs.declared.Tables.{Tables}
@@ -33,7 +33,7 @@ module _ (sheet buffer currency : Text) (class : Class) {read : Result Tables Re
   abbrev next : paper.Tables → Answer
   next t = judged 0 (explanation_text (explanation_of t currency class)) (ask_rules t currency class)
 
-  refuses : {f : Refused} → read ≡ Err f → ◌≡◌ {A = ℕ × Text} (given (Err f), buffer) (explainer currency class sheet buffer)
+  refuses : {f : Refused} → read ≡ Err f → ◌≡◌ {A = ℕ × Text} (number_given (Err f), buffer) (explainer currency class sheet buffer)
   refuses {f} k =
       sym (explainer_answer currency class sheet buffer (refused (number_of f.refusal) f.line) ((stopped (length buffer) sheet is k).answers next))
 

@@ -14,7 +14,7 @@ use Rattle.sheet.specs.Whole.{held_sheet}
 use Rattle.answers.specs.Refusals.{number_of}
 use Rattle.answers.specs.declared.Refused.{Refused}
 use Rattle.std.proofs.Common.{Result, Ok, Err}
-use Rattle.kit.specs.Given.{given}
+use Rattle.kit.specs.Numbers.{number_given}
 use Rattle.tables.specs.Held.{held_tables}
 use Rattle.tables.specs.declared.Tables.{Tables}
 use Rattle.margin.specs.Figures.{TablesRanged, figures_of}
@@ -33,7 +33,7 @@ module _ (sheet buffer : Text) (listing : Listing) {read : Result Tables Refused
   abbrev next : paper.Tables → Answer
   next t = accepted (report_of listing t)
 
-  refuses : {f : Refused} → read ≡ Err f → ◌≡◌ {A = ℕ × Text} (given (Err f), buffer) (kit listing sheet buffer)
+  refuses : {f : Refused} → read ≡ Err f → ◌≡◌ {A = ℕ × Text} (number_given (Err f), buffer) (kit listing sheet buffer)
   refuses {f} k = sym (gives_answer listing sheet buffer (refused (number_of f.refusal) f.line) ((stopped (length buffer) sheet is k).answers next))
 
   -- The sheet is accepted
