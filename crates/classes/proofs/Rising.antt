@@ -24,8 +24,21 @@ use Rattle.paper.proofs.Fields.{kind_back}
 use Rattle.paper.proofs.Rules.{class_facts}
 use Rattle.tables.specs.Numbers.{kind_number}
 use Rattle.tables.proofs.Numbers.{kind_below}
-use Rattle.classes.specs.Seen.{border_number, none_seen, row_fits, after_row, seen_of}
+use Rattle.tables.specs.Held.{held_class}
+use Rattle.classes.specs.Seen.{none_seen, fits_of, after_of, seen_of}
 use Rattle.classes.specs.declared.Seen.{Seen}
+
+-- A row's border in the code, ten-thousandths of a year: 0 where it is blank
+abbrev border_number : ClassRow → Duration
+border_number c = (held_class c).border
+
+-- Whether a row may stand below what is seen
+abbrev row_fits : Seen → ClassRow → Bool
+row_fits seen c = fits_of seen (held_class c)
+
+-- What is seen with it too
+abbrev after_row : Seen → ClassRow → Seen
+after_row seen c = after_of seen (held_class c)
 
 -- A row whose class is at least 1, and whose border is as its kind asks
 pub record Formed (c : ClassRow) : Type 0 where

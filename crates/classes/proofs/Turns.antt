@@ -1,49 +1,44 @@
--- The C section's room, turn by turn: what is seen is what the rows above tell, and what the code makes of a row is what the paper
--- makes of it.
-use Prim.Native.Nat.{ℕ, ◌<◌}
+-- The C section's room, and how its rows are judged: what is seen is what the rows above tell, and what the code makes of a row is what
+-- the paper makes of it.
+use Prim.Native.Nat.{◌<◌}
 use native.Mathlib.Omega.{arith}
 use mathlib.Core.Bool.{Bool, true, false}
-use mathlib.Core.List.{List, ◌∷◌}
-use mathlib.Core.Path.{◌≡◌, refl, sym, ap}
+use mathlib.Core.List.{List, [], ◌∷◌}
+use mathlib.Core.Option as maybe
+use mathlib.Core.Path.{◌≡◌, refl, sym, ap, ◌∙◌}
+use Rattle.std.proofs.Common.{Option, Some, None}
 use lib.Dec.{T, ltb}
 use lib.ListN.{length}
+use Rattle.paper.specs.Lists.{every}
 use Rattle.paper.specs.Rows as paper
-use Rattle.paper.specs.Refusals.{class_kind}
+use Rattle.paper.specs.Refusals.{may_precede, class_kind}
 use Rattle.paper.specs.Tables.{hold}
 use Rattle.paper.proofs.Lists.{tests}
 use Rattle.tables.specs.Held.{no_class, held_class, class_table}
 use Rattle.tables.specs.declared.ClassRow.{ClassRow}
 use Rattle.tables.specs.declared.Classes.{Classes}
+use Rattle.answers.specs.Options.{answer}
+use Rattle.answers.specs.Refusals.{refusal}
+use Rattle.answers.specs.declared.Refusal.{Refusal}
+use Rattle.answers.specs.declared.Refusal.TheVariants.{Count, Order}
 use Rattle.sections.specs.Sections.{broken}
 use Rattle.sections.proofs.Loops.{Kept, none_kept, more_kept}
 use Rattle.sections.proofs.Rooms.{Room, Judge}
 use Rattle.classes.specs.Seen.{seen_of, broken_of}
-use Rattle.classes.specs.declared.ClassRead.{ClassRead}
-use Rattle.classes.specs.declared.ClassRead.TheVariants as reads
 use Rattle.classes.specs.declared.Seen.{Seen}
-use Rattle.classes.specs.declared.ClassSection.{ClassSection}
 use Rattle.classes.proofs.Rising.{Rising, nil, Formed, admitted, fits_all}
 
 -- The room
-abbrev pub room : Room paper.ClassRow ClassRead ClassRow ClassRow ClassSection Classes
+abbrev pub room : Room paper.ClassRow ClassRow ClassRow Classes
 room =
     record {
       kind = class_kind;
-      numbers = λ above c. refl;
       letter = 67;
       its_letter = refl;
-      refuse = reads.Refused;
-      row = λ c next. reads.Row c next;
-      words = record {
-        apart = λ number c next e. let z : ◌≡◌ {A = ℕ} 0 1 = cc in absurd (omega arith);
-        one = λ c d m n e. (cc, cc);
-        number = λ m n e. cc;
-      };
       held = λ sheet at. held_class;
       most = 40;
       free = no_class;
       kept = held_class;
-      make = λ section table. record { section = section; table = table };
       table = class_table;
     }
 
@@ -62,10 +57,18 @@ formed c h = record { class = search tests; border = search tests }
 
 -- A row is judged by what is seen as by all rows above
 pub alike : (above : List paper.ClassRow) (c : paper.ClassRow) → Kept class_kind above → T (hold (class_kind.own c))
-    → broken_of (seen_of above) (length above) (held_class c) ≡ broken (class_kind.others above c)
+    → broken_of (seen_of above) (length above) (held_class c) ≡ answer (maybe.map refusal (broken (class_kind.others above c)))
 alike above c kept own =
-    ap (λ (fits : Bool). elim (ltb (length above) 40) [ false ↦ 8 | true ↦ elim fits [ false ↦ 9 | true ↦ 0 ] ])
-    (sym (fits_all above c (rising kept) (formed c own)))
+    ap judged (sym (fits_all above c (rising kept) (formed c own))) ∙ both (ltb (length above) 40) (every (λ a. may_precede a c) above)
+  where
+    judged : Bool → Option Refusal
+    judged fits = elim (ltb (length above) 40) [ false ↦ Some Count | true ↦ elim fits [ false ↦ Some Order | true ↦ None ] ]
+
+    both : (room fits : Bool) → elim room [ false ↦ Some Count | true ↦ elim fits [ false ↦ Some Order | true ↦ None ] ]
+        ≡ answer (maybe.map refusal (broken ((8, room) ∷ (9, fits) ∷ [])))
+    both false fits = refl
+    both true false = refl
+    both true true = refl
 
 abbrev pub judge : Judge room Seen
 judge = record { tell = seen_of; judge = broken_of; alike = λ sheet at above c kept own. alike above c kept own; few = few }

@@ -1,4 +1,4 @@
 pub mod Read
 pub mod Seen
 pub mod Section
-pub mod Columns
+pub mod Search

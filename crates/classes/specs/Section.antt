@@ -1,14 +1,15 @@
 -- The C section as the code holds it.
-use Rattle.std.specs.Prelude.{List}
+use Rattle.std.specs.Prelude.{List, Result}
 use Rattle.paper.specs.Units.{Text}
 use Rattle.paper.specs.Rows.{ClassRow}
 use Rattle.paper.specs.Refusals.{Outcome}
 use Rattle.paper.specs.Sheet.{Rest}
+use Rattle.answers.specs.declared.Refused.{Refused}
 use Rattle.places.specs.Places.{Place}
 use Rattle.tables.specs.Held.{class_table}
-use Rattle.sections.specs.Sections.{section_of, rows_in}
-use Rattle.classes.specs.declared.ClassSection.{ClassSection}
+use Rattle.tables.specs.declared.Classes.{Classes}
+use Rattle.sections.specs.Sections.{section_as}
 
--- The section that starts at a place: how it went, and its table
-abbrev pub class_section : Text → Place → Outcome (List ClassRow × Rest) → ClassSection
-class_section sheet from o = record { section = section_of sheet from o; table = class_table (rows_in o) }
+-- The section that starts at a place: its table with the place behind it, or its refusal
+abbrev pub class_section : Text → Place → Outcome (List ClassRow × Rest) → Result (Classes × Place) Refused
+class_section = section_as class_table
