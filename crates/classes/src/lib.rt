@@ -123,18 +123,16 @@ pub fn class_section(
     let mut at: Place = from;
     let mut seen = Seen::none();
     while sections::goes_on(s, at, end, b'C') {
+        let line = first as u64 + table.count as u64; // of the sheet
         let read = class_row(s, at, end);
         let Ok((row, next)) = read else {
             return Err(Refused {
                 refusal: read.unwrap_err(),
-                line: first as u64 + table.count as u64,
+                line,
             });
         };
         if let Some(refusal) = broken(&seen, table.count, row) {
-            return Err(Refused {
-                refusal,
-                line: first as u64 + table.count as u64,
-            });
+            return Err(Refused { refusal, line });
         }
         table.rows[table.count] = row;
         table.count += 1;

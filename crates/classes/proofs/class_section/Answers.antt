@@ -16,11 +16,8 @@ loop-seen-init c =
     rw (c.no_classes-table.ensures, c.none-seen.ensures)
     (record { turn = turn_start room c.args.s.now c.args.from c.args.first (omega arith); seen_is = refl })
 
-pub overflow_add-result : goal.overflow_add-result
-overflow_add-result c = omega (arith, judging_most judge c.loop-seen.invariant)
-
-pub overflow_add-result-in-Some : goal.overflow_add-result-in-Some
-overflow_add-result-in-Some c = omega (arith, judging_most judge c.loop-seen.invariant)
+pub overflow_add-line : goal.overflow_add-line
+overflow_add-line c = omega (arith, judging_most judge c.loop-seen.invariant)
 
 pub returns-in_default : goal.returns-in_default
 returns-in_default c =
