@@ -1,3 +1,2 @@
 mod Fields
-mod Header
 pub mod Row

@@ -1,81 +1,70 @@
 -- `head::date_row` meets its contract: its first field is the letter, and its second is read as a date and as a day.
-use Rattle.std.proofs.Common.{◌≡◌, ◌≤◌, ◌-◌, true, length, get_or, sym, ap, ◌∙◌, arith}
-use Rattle.std.proofs.Math.Seq.{slice}
+use Rattle.std.proofs.Common.{◌≡◌, ◌≢◌, ◌++◌, ◌∷◌, [], ◌≤◌, length, sym, ap, ◌∙◌, arith, rules, Bor, Option, Some, None, Ok, Err}
+use Rattle.std.specs.Option.{MatchOption}
+use Rattle.std.proofs.lemmas.Slice.Eq.{strip_suffix_is}
+use Rattle.std.proofs.lemmas.Bool.Decides.{Decides-eqb}
 use Rattle.paper.specs.Units.{Text}
-use Rattle.paper.specs.Text.{LF, ascii, same}
-use Rattle.paper.proofs.Lists.{never}
-use Rattle.places.specs.Places.{ended_length}
+use Rattle.paper.specs.Text.{ascii, LF}
+use Rattle.places.specs.Places.{Place}
 use Rattle.places.proofs.Places.{ended_most}
-use Rattle.head.specs.Fields.{behind_field, two_fields}
-use Rattle.head.specs.declared.Two.{Two}
-use Rattle.head.proofs.Fields.{two_within}
-use Rattle.head.proofs.Row.{DateLine, letter_there, lf_there, stands_there, date_there, found, formed, not_formed, date_told}
+use Rattle.answers.specs.declared.Refusal.TheVariants.{Row, Date}
+use Rattle.head.specs.Fields.{handed_out, behind_field, two_fields}
+use Rattle.head.proofs.Row.{letter_there, date_there, found, formed, not_formed, told_late, told_none, told_some}
 use Rattle.head.proofs.date_row.Goals as goal
 
--- The sheet, which is longer than its header, and the two fields of its second line
-module _ (s : Text) (h : 6 ≤ ended_length s) (two : Two) (e : two ≡ two_fields s 6) where
-  long : 6 ≤ length s
-  long = omega (arith, ended_most s)
+-- A field without its LF, or that it has none
+stripped : (t : Text) (o : Option (Bor Text)) → MatchOption o ((front : Text) → t ≢ front ++ (LF ∷ [])) (λ x. t ≡ x.now ++ (LF ∷ []))
+    → ((o ≡ None) → (front : Text) → t ≢ front ++ (LF ∷ [])) × ((x : Bor Text) → o ≡ Some x → t ≡ x.now ++ (LF ∷ []))
+stripped t None e = ((λ k. e), (λ x k. cc))
+stripped t (Some y) e = ((λ k. cc), (λ x k. let one : y ≡ x = cc in e ∙ ap (λ (x : Bor Text). x.now ++ (LF ∷ [])) one))
 
-  -- Where the two fields stand
-  places : (6 ≤ two.second) × (two.second ≤ length s) × (two.second ≤ two.behind) × (two.behind ≤ length s)
-  places = two_within s 6 long two e
+pub invariant_of-reader : goal.invariant_of-reader
+invariant_of-reader c =
+    let long : 6 ≤ length c.args.s.now = omega (arith, ended_most c.args.s.now) in
+    record { within = long }
 
-  -- The first as the code has it, and the byte at the end of the second
-  letter : same (ascii "D;") (slice 6 two.second s) ≡ same (ascii "D;") (slice 6 (behind_field s 6) s)
-  letter = ap (λ (t : Two). same (ascii "D;") (slice 6 t.second s)) e
+pub returns-then-ne : goal.returns-then-ne
+returns-then-ne c =
+    let other : handed_out c.args.s.now 6 ≢ ascii "D;" = search rules in
+    not_formed c.args.s.now (λ form. other (letter_there c.args.s.now (formed c.args.s.now c.requires form)))
 
-  last : get_or s (two.behind - 1) 0 ≡ get_or s ((two_fields s 6).behind - 1) 0
-  last = ap (λ (t : Two). get_or s (t.behind - 1) 0) e
-
-  -- The D row is there
-  line_is : true ≡ same (ascii "D;") (slice 6 two.second s) → get_or s (two.behind - 1) 0 ≡ LF → DateLine s
-  line_is d lf = found s long (sym letter ∙ sym d) (sym last ∙ lf)
-
-pub is_text-requires : goal.is_text-requires
-is_text-requires c =
-    let w = places c.args.s.now c.requires.0 c.two_fields-two.result c.two_fields-two.ensures in
-    (w.0, w.1)
-
-pub returns-then-not-is_text : goal.returns-then-not-is_text
-returns-then-not-is_text c =
+pub returns-in_err-text : goal.returns-in_err-text
+returns-in_err-text c =
     let s = c.args.s.now in
-    let h = c.requires.0 in
-    let two = c.two_fields-two.result in
-    let e = c.two_fields-two.ensures in
-    not_formed s (λ form. never (c.if-not-is_text.ensures ∙ letter s h two e ∙ letter_there s (formed s h form) (long s h two e)))
+    let is : handed_out s (behind_field s 6) ≡ c.next-2.result.now = search rules in
+    let e : c.from_residual.result ≡ Err Row = search rules in
+    let none : c.strip_suffix.result ≡ None = search rules in
+    let k = strip_suffix_is Decides-eqb c.next-2.result.now (LF ∷ []) c.strip_suffix.result c.strip_suffix.ensures.cases in
+    e ∙ not_formed s (λ form. let l = formed s c.requires form in (stripped _ _ k).0 none l.date (sym is ∙ date_there s l))
 
-pub bounds-s-last : goal.bounds-s-last
-bounds-s-last c = omega (arith, places c.args.s.now c.requires.0 c.two_fields-two.result c.two_fields-two.ensures)
-
-pub returns-then-s-last-ne10 : goal.returns-then-s-last-ne10
-returns-then-s-last-ne10 c =
+pub returns-then-date-gt-LAST_DATE : goal.returns-then-date-gt-LAST_DATE
+returns-then-date-gt-LAST_DATE c =
     let s = c.args.s.now in
-    let h = c.requires.0 in
-    not_formed s (λ form. c.if-s-last-ne10.true (last s h c.two_fields-two.result c.two_fields-two.ensures ∙ lf_there s (formed s h form)))
+    let letter : handed_out s 6 ≡ ascii "D;" = search rules in
+    let is : handed_out s (behind_field s 6) ≡ c.next-2.result.now = search rules in
+    let some : c.strip_suffix.result ≡ Some c.in_ok-text.text = search rules in
+    let k = strip_suffix_is Decides-eqb c.next-2.result.now (LF ∷ []) c.strip_suffix.result c.strip_suffix.ensures.cases in
+    told_late s (found s c.in_ok-text.text.now letter (is ∙ (stripped _ _ k).1 _ some)) (omega arith)
 
-pub date_at-date-requires : goal.date_at-date-requires
-date_at-date-requires c =
+pub returns-in_err-day : goal.returns-in_err-day
+returns-in_err-day c =
     let s = c.args.s.now in
-    let h = c.requires.0 in
-    let two = c.two_fields-two.result in
-    let e = c.two_fields-two.ensures in
-    stands_there s (line_is s h two e c.if-not-is_text.ensures c.if-s-last-ne10.false) two e (places s h two e).3 _
-
-pub day_at-day-requires-clause-stands : goal.day_at-day-requires-clause-stands
-day_at-day-requires-clause-stands c =
-    let s = c.args.s.now in
-    let h = c.requires.0 in
-    let two = c.two_fields-two.result in
-    let e = c.two_fields-two.ensures in
-    stands_there s (line_is s h two e c.if-not-is_text.ensures c.if-s-last-ne10.false) two e (places s h two e).3 _
+    let letter : handed_out s 6 ≡ ascii "D;" = search rules in
+    let is : handed_out s (behind_field s 6) ≡ c.next-2.result.now = search rules in
+    let some : c.strip_suffix.result ≡ Some c.in_ok-text.text = search rules in
+    let k = strip_suffix_is Decides-eqb c.next-2.result.now (LF ∷ []) c.strip_suffix.result c.strip_suffix.ensures.cases in
+    let e : c.from_residual-in_err-day.result ≡ Err Date = search rules in
+    let none : c.day.result ≡ None = search rules in
+    e ∙ told_none s (found s c.in_ok-text.text.now letter (is ∙ (stripped _ _ k).1 _ some)) (sym c.day.ensures ∙ none)
 
 pub returns : goal.returns
 returns c =
     let s = c.args.s.now in
-    let h = c.requires.0 in
-    let two = c.two_fields-two.result in
-    let e = c.two_fields-two.ensures in
-    let line = line_is s h two e c.if-not-is_text.ensures c.if-s-last-ne10.false in
-    c.taken.ensures
-    ∙ date_told s line two e (date_there s line two e (places s h two e).3) c.date_at-date.ensures c.day_at-day.ensures c.is_read.ensures
+    let letter : handed_out s 6 ≡ ascii "D;" = search rules in
+    let is : handed_out s (behind_field s 6) ≡ c.next-2.result.now = search rules in
+    let some : c.strip_suffix.result ≡ Some c.in_ok-text.text = search rules in
+    let k = strip_suffix_is Decides-eqb c.next-2.result.now (LF ∷ []) c.strip_suffix.result c.strip_suffix.ensures.cases in
+    let at : c.next-2.new.self.at ≡ two_fields s 6 = search rules in
+    let day : c.day.result ≡ Some c.in_ok-day.day = search rules in
+    ap (λ (p : Place). Ok (c.in_ok-day.day, p)) at
+    ∙ told_some s (found s c.in_ok-text.text.now letter (is ∙ (stripped _ _ k).1 _ some)) (omega arith) (sym c.day.ensures ∙ day)
