@@ -1,2 +1,2 @@
 mod Row
-mod Turns
+pub mod Turns

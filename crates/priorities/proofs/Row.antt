@@ -25,15 +25,15 @@ abbrev pub six : paper.PriorityRow → Bool
 six o = between 1 40 o.first && between 1 40 o.second && leb o.factor 10_000
 
 -- The row that fields are read as, as it is held, where it keeps the rule
-abbrev pub end : Option paper.PriorityRow → Option PriorityRow
+abbrev end : Option paper.PriorityRow → Option PriorityRow
 end o = map held_priority (o >>= λ o. when (six o) o)
 
 -- ... by the texts of its fields
 abbrev priority_from : Text → Text → Text → Option PriorityRow
-priority_from one two three =
-    ranged_in 1 40 one >>= λ first.
-    ranged_in 1 40 two >>= λ second.
-    ranged_in 0 10_000 three >>= λ factor.
+priority_from first second third =
+    ranged_in 1 40 first >>= λ first.
+    ranged_in 1 40 second >>= λ second.
+    ranged_in 0 10_000 third >>= λ factor.
     some (record { first = first; second = second; factor = factor })
 
 -- ... one after the other

@@ -12,9 +12,9 @@ use Rattle.paper.specs.Rows as paper
 use Rattle.paper.specs.Refusals.{has_class, priority_kind}
 use Rattle.paper.specs.Tables.{hold}
 use Rattle.paper.proofs.Lists.{tests}
-use Rattle.tables.specs.Held.{no_priority, held_priority, priority_table}
+use Rattle.tables.specs.Held.{held_priority, priority_table}
 use Rattle.tables.specs.declared.PriorityRow.{PriorityRow}
-use Rattle.tables.specs.declared.Priorities.{Priorities}
+use Rattle.arrayvec.specs.ArrayVec.{ArrayVec}
 use Rattle.answers.specs.Options.{answer}
 use Rattle.answers.specs.Refusals.{refusal}
 use Rattle.answers.specs.declared.Refusal.{Refusal}
@@ -32,7 +32,7 @@ known_at (suc many) first (suc n) cs h = known_at many (suc first) n cs (omega a
 
 module _ (cs : List paper.ClassRow) where
   -- The room
-  abbrev pub room : Room paper.PriorityRow PriorityRow PriorityRow Priorities
+  abbrev pub room : Room paper.PriorityRow PriorityRow PriorityRow (ArrayVec PriorityRow)
   room =
       record {
         kind = priority_kind cs;
@@ -40,7 +40,6 @@ module _ (cs : List paper.ClassRow) where
         its_letter = refl;
         held = λ sheet at. held_priority;
         most = 200;
-        free = no_priority;
         kept = held_priority;
         table = priority_table;
       }

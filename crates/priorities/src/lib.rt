@@ -47,11 +47,11 @@ fn priority_row(s: &[u8], at: Place, end: Place) -> Result<(PriorityRow, Place),
 
 // Which class numbers have a C row.
 pub fn known_classes(classes: &Classes) -> [bool; 41]
-    requires { (classes.now.count ≤ 40) × (ranged classes.now ≡ true) }
+    requires { ranged classes.now ≡ true }
     ensures { result ≡ known_of (paper_classes classes.now) }
 {
     let mut known: [bool; 41] = [false; 41];
-    for row in &classes.rows[..classes.count] {
+    for row in classes.as_slice() {
         known[row.class as usize] = true;
     }
     known
@@ -85,26 +85,27 @@ pub fn priority_section(
     classes: &Classes,
     first: u32, // line of the first row
 ) -> Result<(Priorities, Place), Refused>
-    requires { (from ≤ end) × (end ≡ ended_length s.now) × (classes.now.count ≤ 40) × (ranged classes.now ≡ true) }
+    requires { (from ≤ end) × (end ≡ ended_length s.now) × (ranged classes.now ≡ true) }
     ensures { result ≡ priority_section s.now from (section (priority_kind (paper_classes classes.now)) (first, lines (drop from s.now))) }
 {
     let known = known_classes(classes);
-    let mut table = tables::no_priorities();
+    let mut table = Priorities::new();
     let mut at: Place = from;
     while sections::goes_on(s, at, end, b'O') {
-        let line = first as u64 + table.count as u64; // of the sheet
         let read = priority_row(s, at, end);
         let Ok((row, next)) = read else {
             return Err(Refused {
                 refusal: read.unwrap_err(),
-                line,
+                line: first as u64 + table.len() as u64,
             });
         };
-        if let Some(refusal) = broken(&known, table.count, row) {
-            return Err(Refused { refusal, line });
+        if let Some(refusal) = broken(&known, table.len(), row) {
+            return Err(Refused {
+                refusal,
+                line: first as u64 + table.len() as u64,
+            });
         }
-        table.rows[table.count] = row;
-        table.count += 1;
+        table.push(row);
         at = next;
     }
     Ok((table, at))

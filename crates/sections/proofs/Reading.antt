@@ -174,10 +174,10 @@ module _ {R H A D : Type 0} (held : R → H) (next : Place) (kind : RowKind R) (
   by_fields none = Err (refusal 6)
   by_fields (some a) = seventh a (dates a)
 
-  module _ (many : length fs ≡ kind.many) (six seven : R → Bool) (own : (r : R) → kind.own r ≡ (6, six r) ∷ (7, seven r) ∷ [])
-      (part : R → A) (dated : (r : R) → kind.read fs ≡ some r → when (seven r) (held r) ≡ map (whole (part r)) (dates (part r))) where
-    pub by_dates : read_as held next (shaped kind fs) ≡ by_fields (map part (kind.read fs >>= λ r. when (six r) r))
-    by_dates = two_rules held next kind fs many six seven own ∙ go (kind.read fs) refl
+  module _ (many : length fs ≡ kind.many) (six seven : R → Bool) (own : (r : R) → kind.own r ≡ (6, six r) ∷ (7, seven r) ∷ []) (part : R → A) where
+    pub by_kept_dates : ((r : R) → kind.read fs ≡ some r → six r ≡ true → when (seven r) (held r) ≡ map (whole (part r)) (dates (part r)))
+        → read_as held next (shaped kind fs) ≡ by_fields (map part (kind.read fs >>= λ r. when (six r) r))
+    by_kept_dates dated = two_rules held next kind fs many six seven own ∙ go (kind.read fs) refl
       where
         last : (r : R) (b : Bool) (o : Option D) → when b (held r) ≡ map (whole (part r)) o
             → cond {A = Result (H × Place) Refusal} b (Ok (held r, next)) (Err (refusal 7)) ≡ seventh (part r) o
@@ -190,11 +190,17 @@ module _ {R H A D : Type 0} (held : R → H) (next : Place) (kind : RowKind R) (
             → sixth held next kind fs (λ r. cond (seven r) (Ok (held r, next)) (Err (refusal 7))) (o >>= λ r. when (six r) r)
             ≡ by_fields (map part (o >>= λ r. when (six r) r))
         go none e = refl
-        go (some r) e = test (six r)
+        go (some r) e = test (six r) refl
           where
-            test : (b : Bool) → sixth held next kind fs (λ r. cond (seven r) (Ok (held r, next)) (Err (refusal 7))) (when b r) ≡ by_fields (map part (when b r))
-            test true = last r (seven r) (dates (part r)) (dated r e)
-            test false = refl
+            test : (b : Bool) → six r ≡ b
+                → sixth held next kind fs (λ r. cond (seven r) (Ok (held r, next)) (Err (refusal 7))) (when b r) ≡ by_fields (map part (when b r))
+            test true k = last r (seven r) (dates (part r)) (dated r e k)
+            test false k = refl
+
+    -- ... where the dates are the same of any row
+    pub by_dates : ((r : R) → kind.read fs ≡ some r → when (seven r) (held r) ≡ map (whole (part r)) (dates (part r)))
+        → read_as held next (shaped kind fs) ≡ by_fields (map part (kind.read fs >>= λ r. when (six r) r))
+    by_dates dated = by_kept_dates (λ r e k. dated r e)
 
   -- Nothing: the row is refused 6
   pub dated_none : (o : Option A) {read : answers.Option A} → read ≡ answer o → {f : Refusal} → ok_or read (refusal 6) ≡ Err f → Err f ≡ by_fields o

@@ -3,17 +3,16 @@ use Prim.Native.Nat.{ℕ}
 use mathlib.Core.Bool.{true}
 use mathlib.Core.List.{List, [], ◌∷◌, map}
 use mathlib.Core.Option.{Option, none, some}
-use mathlib.Core.Path.{◌≡◌, refl, ap, ap₂, ◌∙◌}
+use mathlib.Core.Path.{◌≡◌, refl, ap₂}
 use lib.Dec.{T}
-use Rattle.paper.specs.Lists.{between, every, Each, nil, cons}
+use Rattle.paper.specs.Lists.{between, Each, nil, cons}
 use Rattle.paper.specs.Rows as paper
 use Rattle.paper.specs.Rows.{government, corporate, inflation, floating}
 use Rattle.paper.specs.Refusals.{is_duration, class_kind}
 use Rattle.paper.specs.Tables.{hold_down}
 use Rattle.paper.proofs.Lists.{tests, within, each_first, each_rest, each_every}
-use Rattle.paper.proofs.Rules.{ClassFacts, class_facts, each_holds, classes_at_most}
-use Rattle.tables.proofs.Padded.{table_front}
-use Rattle.tables.specs.Held.{no_class, held_class, class_table}
+use Rattle.paper.proofs.Rules.{ClassFacts, class_facts, each_holds}
+use Rattle.tables.specs.Held.{held_class, class_table}
 use Rattle.tables.specs.Back.{paper_class, paper_classes, ranged}
 
 -- A C row is got back from how it is held
@@ -41,15 +40,11 @@ classes_back (c ∷ cs) each =
 module _ (cs : List paper.ClassRow) (down : T (hold_down class_kind [] cs)) where
   -- C rows that keep the rules are those that their table stands for
   pub table_classes : paper_classes (class_table cs) ≡ cs
-  table_classes =
-      ap (map paper_class) (table_front 40 no_class held_class cs (classes_at_most cs down))
-      ∙ classes_back cs (each_holds class_kind (λ c. T (is_duration c.kind c.border)) (λ above c h. search tests) [] cs down)
+  table_classes = classes_back cs (each_holds class_kind (λ c. T (is_duration c.kind c.border)) (λ above c h. search tests) [] cs down)
 
   -- Their numbers are 1 to 40
   pub table_ranged : ranged (class_table cs) ≡ true
-  table_ranged =
-      ap (every (λ c. between 1 40 c.class)) (table_front 40 no_class held_class cs (classes_at_most cs down))
-      ∙ each_every (λ c. between 1 40 c.class) (numbers cs (each_holds class_kind ClassFacts class_facts [] cs down))
+  table_ranged = each_every (λ c. between 1 40 c.class) (numbers cs (each_holds class_kind ClassFacts class_facts [] cs down))
     where
       numbers : (cs : List paper.ClassRow) → Each ClassFacts cs → Each (λ c. between 1 40 c.class ≡ true) (map held_class cs)
       numbers [] each = nil

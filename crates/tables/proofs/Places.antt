@@ -9,7 +9,6 @@ use mathlib.Core.Path.{◌≡◌, refl, sym, ap, ◌∙◌}
 use borrow.Author.Tests.{eq-eqb, ne_eqb, ltb-true, ltb-false}
 use lib.Dec.{T, eqb, ltb, eqb-suc-suc}
 use lib.ListN.{length, get_or, take, replicate}
-use lib.Seq.{get_or-take}
 use Rattle.std.specs.Prelude.{Some, None}
 use Rattle.std.specs.Bool.{then_some}
 use Rattle.std.proofs.lemmas.Option.{same_Some, none-some}
@@ -24,11 +23,10 @@ use Rattle.paper.proofs.Lists.{tests, every_cons}
 use Rattle.paper.proofs.Order.{same_refl, Compared, first, equal, second, compared}
 use Rattle.paper.proofs.Rules.{security_facts}
 use Rattle.paper.proofs.Currencies.{placed_there, placed_first, placed_on, has_currency_lem, each_currency}
-use Rattle.tables.specs.Padded.{padded, table_of}
+use Rattle.tables.specs.Padded.{padded}
 use Rattle.tables.specs.Numbers.{code_number, currency_number, number_place}
 use Rattle.tables.specs.Held.{codes_of}
 use Rattle.tables.specs.Ranks.{found_place}
-use Rattle.tables.proofs.Padded.{table_front}
 use Rattle.tables.proofs.Numbers.{code_number_before, currency_number_before}
 
 -- An entry stands at a place of a list
@@ -67,14 +65,6 @@ module _ {A : Type 0} where
   stands_made make none here = refl
   stands_made make none (there s) = stands_made make none s
 
-  -- ... in a table, whatever stands past it
-  pub stands_held : {H : Type 0} (most : ℕ) (none : H) (held : A → H) {x : A} {xs : List A} {k : ℕ} → length xs ≤ most → Stands x xs k
-      → (other : H) → get_or (table_of most none held xs) k other ≡ held x
-  stands_held {H} most none held {xs = xs} {k} few s other =
-      sym (get_or-take (length xs) (table_of most none held xs) k other (stands_low s))
-      ∙ ap (λ (hs : List H). get_or hs k other) (table_front most none held xs few)
-      ∙ stands_made held other s
-
   -- The first that passes a test on its number stands at the place of the number
   pub first_stands : (key : A → ℕ) (n : ℕ) (test : A → Bool) {xs : List A} → Each (λ a. test a ≡ eqb (key a) n) xs
       → (x : A) → first_that test xs ≡ some x → Stands x xs (number_place (map key xs) n)
@@ -89,6 +79,12 @@ module _ {A : Type 0} where
 -- ---- every place of a table
 
 module _ {A : Type 0} (P : A → Type 0) where
+  -- What is true of each entry and past them is true at every place
+  pub each_any : {xs : List A} → Each P xs → (other : A) → P other → (i : ℕ) → P (get_or xs i other)
+  each_any nil other past i = past
+  each_any (cons p ps) other past zero = p
+  each_any (cons p ps) other past (suc i) = each_any ps other past i
+
   -- What is true at every place of a list and past it is true at every place of its front
   front_any : (n : ℕ) (l : List A) (other : A) → P other → ((i : ℕ) → P (get_or l i other)) → (i : ℕ) → P (get_or (take n l) i other)
   front_any zero l other past each i = past

@@ -1,15 +1,15 @@
 -- How a number stands among others, and what its rank is good for: it is the place of the one that is there, and where to put one
 -- that is not. Then the same of the currencies of S rows, by their numbers.
-use Prim.Native.Nat.{ℕ, zero, suc, ◌≤◌, ◌<◌}
+use Prim.Native.Nat.{ℕ, suc, ◌≤◌, ◌<◌}
 use native.Mathlib.Omega.{arith}
 use mathlib.Core.Bool.{Bool, true, false, ◌||◌, or-true}
-use mathlib.Core.List.{List, [], ◌∷◌, ◌++◌, map}
+use mathlib.Core.List.{List, [], ◌∷◌, map}
 use mathlib.Core.Option.{some}
 use mathlib.Core.Path.{◌≡◌, refl, sym, ap, ap₂, ◌∙◌}
-use Rattle.std.specs.Prelude.{Result, Ok, Err, is_ok}
+use Rattle.std.specs.Prelude.{Result, Ok, Err, is_ok, insert}
 use borrow.Author.Tests.{eqb-true, eqb-false, eq-eqb, ne_eqb, ltb-true, ltb-false, lt-ltb, le-ltb}
 use lib.Dec.{eqb, ltb}
-use lib.ListN.{length, take, replicate, length-append, length-map}
+use lib.ListN.{length, length-map}
 use Rattle.paper.specs.Units.{Currency}
 use Rattle.paper.specs.Lists.{given, first_that}
 use Rattle.paper.specs.Text.{same, before, is_currency}
@@ -18,9 +18,8 @@ use Rattle.paper.specs.Currencies.{placed, currencies, has_currency}
 use Rattle.paper.proofs.Lists.{never, Each, nil, cons, each_map}
 use Rattle.paper.proofs.Currencies.{has_currency_lem, each_currency}
 use Rattle.tables.specs.Numbers.{currency_number, number_place}
-use Rattle.tables.specs.Held.{currency_table}
 use Rattle.tables.proofs.Numbers.{currency_number_before, currency_number_same}
-use Rattle.tables.specs.Ranks.{one_further, ranked_of, rank_of, put_in, inserted_at}
+use Rattle.tables.specs.Ranks.{one_further, ranked_of, rank_of}
 
 -- A number is below another, the same, or above it
 data Placing (m n : ℕ) : Type 0 where
@@ -114,12 +113,6 @@ module _ (n m : ℕ) (ms : List ℕ) where
   row_on : m < n → in_row n (m ∷ ms) ≡ m ∷ in_row n ms
   row_on h = rw (ne_eqb n m (λ e. omega arith), le-ltb n m (omega arith), in_row)
 
--- What was put in pushes the last out of so many
-pushed : (own most : ℕ) (ns : List ℕ) → most ≤ length ns → put_in 0 own (take most ns) ≡ take most (own ∷ ns)
-pushed own zero ns h = refl
-pushed own (suc most) [] h = absurd (omega arith)
-pushed own (suc most) (n ∷ ns) h = ap (λ (l : List ℕ). own ∷ l) (pushed n most ns (omega arith))
-
 module _ (own : ℕ) where
   -- What is not there is put in at its rank
   pub row_more : (ns : List ℕ) → is_ok (ranked_of ns own) ≡ false → length (in_row own ns) ≡ suc (length ns)
@@ -131,20 +124,16 @@ module _ (own : ℕ) where
       go (ahead {n} {ns} h) t = ap length (row_first own n ns h)
       go (further {n} {ns} {s} h rest) t = ap length (row_on own n ns h) ∙ ap suc (go rest (sym (further_there s) ∙ t))
 
-  pub row_put : (most : ℕ) (ns free : List ℕ) → most ≤ length free → is_ok (ranked_of ns own) ≡ false
-      → put_in (rank_of (ranked_of ns own)) own (take most (ns ++ free)) ≡ take most (in_row own ns ++ free)
-  row_put most ns free = go most (stands own ns)
+  pub row_put : (ns : List ℕ) → is_ok (ranked_of ns own) ≡ false → insert ns (rank_of (ranked_of ns own)) own ≡ in_row own ns
+  row_put ns = go (stands own ns)
     where
-      go : (most : ℕ) {ns : List ℕ} {s : Result ℕ ℕ} → Stands own ns s → most ≤ length free → is_ok s ≡ false
-          → put_in (rank_of s) own (take most (ns ++ free)) ≡ take most (in_row own ns ++ free)
-      go zero v h t = refl
-      go (suc most) behind h t = pushed own (suc most) free h
-      go (suc most) (here e) h t = never (sym t)
-      go (suc most) (ahead {n} {ns} l) h t =
-          ap (λ (l : List ℕ). own ∷ l) (pushed n most (ns ++ free) (omega (arith, length-append ns free))) ∙ rw (row_first own n ns l)
-      go (suc most) (further {n} {ns} {s} l rest) h t =
-          ap (λ (rank : ℕ). put_in rank own (take (suc most) ((n ∷ ns) ++ free))) (further_rank s)
-          ∙ ap (λ (l : List ℕ). n ∷ l) (go most rest (omega arith) (sym (further_there s) ∙ t)) ∙ rw (row_on own n ns l)
+      go : {ns : List ℕ} {s : Result ℕ ℕ} → Stands own ns s → is_ok s ≡ false → insert ns (rank_of s) own ≡ in_row own ns
+      go behind t = refl
+      go (here e) t = never (sym t)
+      go (ahead {n} {ns} l) t = sym (row_first own n ns l)
+      go (further {n} {ns} {s} l rest) t =
+          ap (λ (rank : ℕ). insert (n ∷ ns) rank own) (further_rank s)
+          ∙ ap (λ (l : List ℕ). n ∷ l) (go rest (sym (further_there s) ∙ t)) ∙ sym (row_on own n ns l)
 
 -- A number is there where it was put in, or was before
 pub there_put : (d : ℕ) (ns : List ℕ) (n : ℕ) → is_ok (ranked_of (in_row d ns) n) ≡ (eqb d n || is_ok (ranked_of ns n))
@@ -247,9 +236,6 @@ module _ (ss : List SecurityRow) (each : Each Currencied ss) (s : SecurityRow) (
         sym (length-map (currencies (s ∷ ss)) currency_number) ∙ ap length (money_more s ss p each)
         ∙ row_more (currency_number s.currency) (money_of ss) t ∙ ap suc (length-map (currencies ss) currency_number)
 
-    pub money_new : inserted_at (currency_table (currencies ss)) (rank_of standing) (currency_number s.currency) ≡ currency_table (currencies (s ∷ ss))
-    money_new =
-        let free : List ℕ = replicate 8 0 in
-        ap₂ (λ (n : ℕ) (ns : List ℕ). record { count = n; numbers = ns }) (sym money_longer)
-        (row_put (currency_number s.currency) 8 (money_of ss) free (omega arith) t
-        ∙ ap (λ (ns : List ℕ). take 8 (ns ++ free)) (sym (money_more s ss p each)))
+    -- ... to whose numbers its own is put at its rank
+    pub money_new : insert (money_of ss) (rank_of standing) (currency_number s.currency) ≡ money_of (s ∷ ss)
+    money_new = row_put (currency_number s.currency) (money_of ss) t ∙ sym (money_more s ss p each)

@@ -1,12 +1,12 @@
 -- The paper's C rows, got back from their table.
-use Rattle.std.specs.Prelude.{ℕ, zero, suc, Bool, true, false, List, map, ltb, take}
+use Rattle.std.specs.Prelude.{ℕ, zero, suc, Bool, true, false, List, map, ltb}
 use Rattle.std.proofs.Math.Option.{Option, none, some}
 use Rattle.paper.specs.Units.{Duration}
 use Rattle.paper.specs.Lists.{between, every}
 use Rattle.paper.specs.Rows as paper
 use Rattle.paper.specs.Rows.{government, corporate, inflation, floating}
 use Rattle.tables.specs.declared.ClassRow.{ClassRow}
-use Rattle.tables.specs.declared.Classes.{Classes}
+use Rattle.arrayvec.specs.ArrayVec.{ArrayVec}
 
 -- A kind by its number
 abbrev pub kind_of : ℕ → paper.Kind
@@ -24,9 +24,9 @@ abbrev pub paper_class : ClassRow → paper.ClassRow
 paper_class c = record { class = c.class; kind = kind_of c.kind; border = duration_of c.kind c.border; deposit = c.deposit }
 
 -- The C rows of a table
-abbrev pub paper_classes : Classes → List paper.ClassRow
-paper_classes t = map paper_class (take t.count t.rows)
+abbrev pub paper_classes : ArrayVec ClassRow → List paper.ClassRow
+paper_classes t = map paper_class t.items
 
 -- Whether each class of a table is 1 to 40
-abbrev pub ranged : Classes → Bool
-ranged t = every (λ c. between 1 40 c.class) (take t.count t.rows)
+abbrev pub ranged : ArrayVec ClassRow → Bool
+ranged t = every (λ c. between 1 40 c.class) t.items

@@ -1,22 +1,19 @@
 -- The tables of a sheet as the code holds them: each is a map of the rows that the paper read.
-use Rattle.std.specs.Prelude.{ℕ, false, List, [], map, pos, length}
+use Rattle.std.specs.Prelude.{ℕ, false, List, map, pos}
 use Rattle.std.proofs.Math.Option.{get_or}
 use Rattle.paper.specs.Units.{Day, Currency}
 use Rattle.paper.specs.Days.{day}
 use Rattle.paper.specs.Rows as paper
 use Rattle.paper.specs.Currencies.{currencies}
 use Rattle.paper.specs.Valuation.{margined, accrual_day, class_of}
-use Rattle.tables.specs.Padded.{padded, table_of}
+use Rattle.arrayvec.specs.ArrayVec.{ArrayVec}
+use Rattle.tables.specs.Padded.{padded}
 use Rattle.tables.specs.Numbers.{kind_number, trade_number, side_number, code_number, currency_number, highest, number_place}
 use Rattle.tables.specs.declared.ClassRow.{ClassRow}
-use Rattle.tables.specs.declared.Classes.{Classes}
 use Rattle.tables.specs.declared.PriorityRow.{PriorityRow}
-use Rattle.tables.specs.declared.Priorities.{Priorities}
-use Rattle.tables.specs.declared.Currencies.{Currencies}
 use Rattle.tables.specs.declared.Security.{Security}
 use Rattle.tables.specs.declared.Securities.{Securities}
 use Rattle.tables.specs.declared.Trade.{Trade}
-use Rattle.tables.specs.declared.Trades.{Trades}
 use Rattle.tables.specs.declared.Tables.{Tables}
 
 -- ---- C rows
@@ -30,8 +27,8 @@ abbrev pub held_class : paper.ClassRow → ClassRow
 held_class c = record { class = c.class; kind = kind_number c.kind; border = get_or c.border 0; deposit = c.deposit }
 
 -- Their table
-abbrev pub class_table : List paper.ClassRow → Classes
-class_table cs = record { count = length cs; rows = table_of 40 no_class held_class cs }
+abbrev pub class_table : List paper.ClassRow → ArrayVec ClassRow
+class_table cs = record { items = map held_class cs }
 
 -- ---- O rows
 
@@ -44,14 +41,14 @@ abbrev pub held_priority : paper.PriorityRow → PriorityRow
 held_priority o = record { first = o.first; second = o.second; factor = o.factor }
 
 -- Their table
-abbrev pub priority_table : List paper.PriorityRow → Priorities
-priority_table os = record { count = length os; rows = table_of 200 no_priority held_priority os }
+abbrev pub priority_table : List paper.PriorityRow → ArrayVec PriorityRow
+priority_table os = record { items = map held_priority os }
 
 -- ---- S rows
 
 -- Currencies, in their order
-abbrev pub currency_table : List Currency → Currencies
-currency_table all = record { count = length all; numbers = table_of 8 0 currency_number all }
+abbrev pub currency_table : List Currency → ArrayVec ℕ
+currency_table all = record { items = map currency_number all }
 
 -- What stands where the table has no row
 abbrev pub no_security : Security
@@ -78,8 +75,7 @@ codes_of ss = map (λ s. code_number s.code) ss
 abbrev pub security_table : List paper.ClassRow → List paper.SecurityRow → Securities
 security_table cs ss =
     record {
-      count = length ss;
-      rows = table_of 200 no_security (held_security cs (currencies ss)) ss;
+      rows = record { items = map (held_security cs (currencies ss)) ss };
       codes = padded 256 highest (codes_of ss);
       currencies = currency_table (currencies ss);
     }
@@ -117,8 +113,8 @@ held_trade today codes t =
     }
 
 -- Their table
-abbrev pub trade_table : Day → List ℕ → List paper.TradeRow → Trades
-trade_table today codes ts = record { count = length ts; rows = table_of 500 no_trade (held_trade today codes) ts }
+abbrev pub trade_table : Day → List ℕ → List paper.TradeRow → ArrayVec Trade
+trade_table today codes ts = record { items = map (held_trade today codes) ts }
 
 -- ---- the whole
 
@@ -131,7 +127,3 @@ held_tables t =
       securities = security_table t.classes t.securities;
       trades = trade_table (day t.date) (codes_of t.securities) t.trades;
     }
-
--- Tables without rows
-abbrev pub no_tables : paper.Tables
-no_tables = record { date = 0; classes = []; priorities = []; securities = []; trades = [] }

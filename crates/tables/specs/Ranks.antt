@@ -1,8 +1,7 @@
 -- Where a code or a currency stands among rising ones, by its number.
-use Rattle.std.specs.Prelude.{ℕ, zero, suc, ◌≤◌, ◌<◌, true, false, List, [], ◌∷◌, ◌≡◌, eqb, ltb, length, get_or, Option, Result, Ok, Err}
+use Rattle.std.specs.Prelude.{ℕ, suc, ◌≤◌, ◌<◌, true, false, List, [], ◌∷◌, ◌≡◌, eqb, ltb, length, get_or, Option, Result, Ok, Err}
 use Rattle.std.specs.Bool.{then_some}
 use Rattle.tables.specs.Numbers.{highest, number_place}
-use Rattle.tables.specs.declared.Currencies.{Currencies}
 
 -- The first so many of 256 codes rise, below the highest number, which stands behind them
 pub record Searchable (codes : List ℕ) (count : ℕ) : Type 0 where
@@ -29,13 +28,3 @@ ranked_of (n ∷ ns) own =
 abbrev pub rank_of : Result ℕ ℕ → ℕ
 rank_of (Ok rank) = rank
 rank_of (Err rank) = rank
-
--- A number put into a list at a rank, the last of which falls off
-abbrev pub put_in : ℕ → ℕ → List ℕ → List ℕ
-put_in rank own [] = []
-put_in zero own (n ∷ ns) = own ∷ put_in zero n ns
-put_in (suc rank) own (n ∷ ns) = n ∷ put_in rank own ns
-
--- Currencies with one more at a rank
-abbrev pub inserted_at : Currencies → ℕ → ℕ → Currencies
-inserted_at c rank own = record { count = suc c.count; numbers = put_in rank own c.numbers }

@@ -2,11 +2,11 @@
 // number and a currency as another, dates as days, and what judging a row found out. Numbers are no wider than their range.
 #![tactic(auto)]
 
-ghost use Rattle.std.specs.Prelude.{◌≡◌, [], ◌≤◌, ◌<◌, take};
-ghost use Rattle.tables.specs.Ranks.{Searchable, found_place, ranked_of, inserted_at};
-ghost use Rattle.tables.specs.Held.{no_security, no_tables, class_table, priority_table, currency_table, security_table, trade_table, held_tables};
+ghost use Rattle.std.specs.Prelude.{◌≡◌, [], ◌≤◌, take};
+ghost use Rattle.tables.specs.Ranks.{Searchable, found_place, ranked_of};
+ghost use Rattle.tables.specs.Held.{security_table};
 
-use std::mem;
+use arrayvec::ArrayVec;
 
 pub type Code = u64; // a code as one number, which orders as its bytes do
 
@@ -15,7 +15,7 @@ pub type Money = u64; // a currency as one number, which orders as its bytes do
 pub type Factor = u64; // ten-thousandths
 
 // A C row.
-#[derive(Clone, Copy)]
+#[derive(Clone, Copy, Default)]
 pub struct ClassRow {
     pub class: u64, // 1..40
     pub kind: u64, // 0 government, 1 corporate, 2 inflation linked, 3 floating
@@ -23,37 +23,22 @@ pub struct ClassRow {
     pub deposit: Factor,
 }
 
-// The C rows.
-#[derive(Clone, Copy)]
-pub struct Classes {
-    pub count: usize, // rows
-    pub rows: [ClassRow; 40],
-}
+pub type Classes = ArrayVec<ClassRow, 40>; // the C rows
 
 // An O row.
-#[derive(Clone, Copy)]
+#[derive(Clone, Copy, Default)]
 pub struct PriorityRow {
     pub first: u64, // class
     pub second: u64, // class
     pub factor: Factor,
 }
 
-// The O rows.
-#[derive(Clone, Copy)]
-pub struct Priorities {
-    pub count: usize, // rows
-    pub rows: [PriorityRow; 200],
-}
+pub type Priorities = ArrayVec<PriorityRow, 200>; // the O rows
 
-// The currencies of the S rows, rising.
-#[derive(Clone, Copy)]
-pub struct Currencies {
-    pub count: usize, // currencies
-    pub numbers: [Money; 8],
-}
+pub type Currencies = ArrayVec<Money, 8>; // the currencies of the S rows, rising
 
 // What valuing asks of an S row, with its class and the place of its currency among the rising ones.
-#[derive(Clone, Copy)]
+#[derive(Clone, Copy, Default)]
 pub struct Security {
     pub price: u32, // hundred-thousandths of a percent
     pub coupon: u32, // hundred-thousandths of a percent a year
@@ -65,16 +50,28 @@ pub struct Security {
 }
 
 // The S rows, their codes in a column of their own, with the highest number behind them, and their currencies.
-#[derive(Clone, Copy)]
+#[derive(Drop)]
 pub struct Securities {
-    pub count: usize, // rows
-    pub rows: [Security; 200],
-    pub codes: [Code; 256],
+    pub rows: ArrayVec<Security, 200>,
+    pub codes: [Code; 256], // no vector: `find` looks at all its places, in turns that no count changes
     pub currencies: Currencies,
 }
 
+impl Securities {
+    // No S rows, and no currency.
+    pub fn new() -> Securities
+        ensures { result ≡ security_table [] [] }
+    {
+        Securities {
+            rows: ArrayVec::new(),
+            codes: [18446744073709551615; 256],
+            currencies: ArrayVec::new(),
+        }
+    }
+}
+
 // What valuing asks of a T row, with the place of its security, whether it is margined, and its accrual day.
-#[derive(Clone, Copy)]
+#[derive(Clone, Copy, Default)]
 pub struct Trade {
     pub amount: u64, // cents
     pub rate: i64, // ten-thousandths of a percent; 0 for cash
@@ -87,116 +84,15 @@ pub struct Trade {
     pub margined: bool,
 }
 
-// The T rows.
-#[derive(Clone, Copy)]
-pub struct Trades {
-    pub count: usize, // rows
-    pub rows: [Trade; 500],
-}
+pub type Trades = ArrayVec<Trade, 500>; // the T rows
 
 // All tables of a sheet.
-#[derive(Clone, Copy)]
+#[derive(Drop)]
 pub struct Tables {
     pub classes: Classes,
     pub priorities: Priorities,
     pub securities: Securities,
     pub trades: Trades,
-}
-
-// What stands where the table of securities has no row.
-pub fn no_security() -> Security
-    ensures { result ≡ no_security }
-{
-    Security {
-        price: 0,
-        coupon: 0,
-        payments: 0,
-        previous: 0,
-        next: 0,
-        class: 0,
-        currency: 0,
-    }
-}
-
-// Tables without rows.
-pub fn no_classes() -> Classes
-    ensures { result ≡ class_table [] }
-{
-    let none = ClassRow {
-        class: 0,
-        kind: 0,
-        border: 0,
-        deposit: 0,
-    };
-    Classes {
-        count: 0, // C rows
-        rows: [none; 40],
-    }
-}
-
-pub fn no_priorities() -> Priorities
-    ensures { result ≡ priority_table [] }
-{
-    let none = PriorityRow {
-        first: 0,
-        second: 0,
-        factor: 0,
-    };
-    Priorities {
-        count: 0, // O rows
-        rows: [none; 200],
-    }
-}
-
-pub fn no_currencies() -> Currencies
-    ensures { result ≡ currency_table [] }
-{
-    Currencies {
-        count: 0, // currencies
-        numbers: [0; 8],
-    }
-}
-
-pub fn no_securities() -> Securities
-    ensures { result ≡ security_table [] [] }
-{
-    Securities {
-        count: 0, // S rows
-        rows: [no_security(); 200],
-        codes: [18446744073709551615; 256],
-        currencies: no_currencies(),
-    }
-}
-
-pub fn no_trades() -> Trades
-    ensures { result ≡ trade_table 0 [] [] }
-{
-    let none = Trade {
-        amount: 0,
-        rate: 0,
-        nominal: 0,
-        first: 0,
-        accrual: 0,
-        security: 0,
-        trade: 0,
-        side: 0,
-        margined: false,
-    };
-    Trades {
-        count: 0, // T rows
-        rows: [none; 500],
-    }
-}
-
-pub fn no_tables() -> Tables
-    ensures { result ≡ held_tables no_tables }
-{
-    Tables {
-        classes: no_classes(),
-        priorities: no_priorities(),
-        securities: no_securities(),
-        trades: no_trades(),
-    }
 }
 
 // ---- where a code or a currency stands
@@ -242,49 +138,21 @@ pub fn find(
     }
 }
 
-// Where a currency stands among rising ones (`Ok`), or would stand: behind those that come before it. Eight turns, whatever they
-// are: no branch depends on them, since one that is guessed wrong costs more than the few steps left. Tried, and slower: a search
-// with branches, 2.1 times plain Rust's time for a sheet, where this took 2.04.
-pub fn ranked(
-    numbers: &[Money; 8],
-    count: usize, // currencies
-    own: Money,
-) -> Result<usize, usize>
-    requires { count ≤ 8 }
-    ensures { result ≡ ranked_of (take count numbers.now) own }
+// Where a currency stands among rising ones (`Ok`), or would stand: behind those that come before it. As many turns as there are,
+// at most eight: no branch depends on what they are, since one that is guessed wrong costs more than the few steps left. Tried, and
+// slower: a search with branches, 2.1 times plain Rust's time for a sheet, where this took 2.04.
+pub fn ranked(numbers: &[Money], own: Money) -> Result<usize, usize>
+    ensures { result ≡ ranked_of numbers.now own }
 {
-    let numbers: &[Money] = numbers; // as a slice: a proof is told its length
     let mut rank: usize = 0; // currencies before it
     let mut more: usize = 1; // 1 while all so far come before it, then 0
-    for (i, &number) in numbers.iter().enumerate() {
-        let known = if i < count { number } else { own };
-        more = if known < own { more } else { 0 };
+    for &number in numbers {
+        more = if number < own { more } else { 0 };
         rank += more;
     }
-    if rank < count && numbers[rank] == own {
+    if rank < numbers.len() && numbers[rank] == own {
         Ok(rank)
     } else {
         Err(rank)
-    }
-}
-
-// Rising currencies with one more at its rank, where there are fewer than eight: each from there on gives its place to the one
-// before it.
-pub fn inserted(
-    currencies: Currencies,
-    rank: usize, // currencies before it
-    own: Money,
-) -> Currencies
-    requires { currencies.count < 8 }
-    ensures { result ≡ inserted_at currencies rank own }
-{
-    let mut numbers = currencies.numbers;
-    let mut moved: Money = own;
-    for i in rank..8 {
-        moved = mem::replace(&mut numbers[i], moved);
-    }
-    Currencies {
-        count: currencies.count + 1,
-        numbers,
     }
 }

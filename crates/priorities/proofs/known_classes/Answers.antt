@@ -1,5 +1,4 @@
--- `priorities::known_classes` meets its contract. The loop's invariant: a class is known where it has one of the first `i` rows.
--- The measure is the rows left.
+-- `priorities::known_classes` meets its contract. The loop's invariant: a class is known where it has one of the rows so far.
 use Prim.Native.Nat.{ℕ, zero, suc, ◌+◌, ◌≤◌, ◌<◌}
 use native.Mathlib.Numerals.{add-one}
 use native.Mathlib.Omega.{arith}
@@ -18,7 +17,6 @@ use Rattle.tables.specs.Held.{no_class}
 use Rattle.tables.specs.Back.{paper_class}
 use Rattle.tables.specs.declared.ClassRow.{ClassRow}
 use Rattle.priorities.specs.Known.{known_from, known_of}
-use Rattle.std.proofs.lemmas.List.{take_all}
 use Rattle.priorities.proofs.known_classes.Goals as goal
 
 -- A row more: its own class has a row, and any other has one where it had one
@@ -54,11 +52,10 @@ module _ (c : paper.ClassRow) where
   known_more (suc many) first (suc k) cs e =
       ap₂ (λ (b : Bool) (l : List Bool). b ∷ l) (sym (has_other cs first (λ d. omega arith))) (known_more many (suc first) k cs (omega arith))
 
--- A row more
+-- A row of the table more
 known_row : (rows : List ClassRow) (i : ℕ) → i < length rows → (known : List Bool) → known ≡ known_of (map paper_class (take i rows))
-    → (get_or rows i no_class).class ≤ 40
     → set known (get_or rows i no_class).class true ≡ known_of (map paper_class (take (i + 1) rows))
-known_row rows i h known e low =
+known_row rows i h known e =
     let c = get_or rows i no_class in
     let front : map paper_class (take i rows) ++ (paper_class c ∷ []) ≡ map paper_class (take (i + 1) rows) =
     sym (map-append paper_class (take i rows) (c ∷ [])) ∙ ap (map paper_class) (sym (take-suc rows i no_class h) ∙ ap (λ (n : ℕ). take n rows) (sym (add-one i))) in
@@ -66,20 +63,18 @@ known_row rows i h known e low =
     ∙ known_more (paper_class c) 41 0 c.class (map paper_class (take i rows)) (omega arith)
     ∙ ap known_of front
 
--- The class of a row of a table whose classes are 1 to 40 is at most 40
-low : (rows : List ClassRow) (i : ℕ) → i < length rows → every (λ (r : ClassRow). between 1 40 r.class) rows ≡ true
-    → (get_or rows i no_class).class ≤ 40
+-- The class of a row is at most 40
+low : (rows : List ClassRow) (i : ℕ) → i < length rows → every (λ (r : ClassRow). between 1 40 r.class) rows ≡ true → (get_or rows i no_class).class ≤ 40
 low rows i h ranged = (bounds 1 40 (get_or rows i no_class).class (every_at (λ r. between 1 40 r.class) rows no_class ranged i h)).1
-
-pub loop-row-init : goal.loop-row-init
-loop-row-init c = refl
-
-pub bounds-known-row : goal.bounds-known-row
-bounds-known-row c = omega (arith, low _ _ c.loop-row-test.true c.requires.1)
 
 pub loop-row-preserved : goal.loop-row-preserved
 loop-row-preserved c =
-    known_row _ _ c.loop-row-test.true c.loop-row.known c.loop-row.invariant (low _ _ c.loop-row-test.true c.requires.1)
+    let same = c.as_slice-row-items.ensures.value in
+    let size = ap length same in
+    rw same (known_row c.args.classes.now.items c.loop-row.row-index (omega arith) c.loop-row.known c.loop-row.invariant)
 
-pub returns : goal.returns
-returns c = c.loop-row.invariant ∙ ap (λ (rows : List ClassRow). known_of (map paper_class rows)) (take_all _ _ c.loop-row-test.false)
+pub bounds-known-row : goal.bounds-known-row
+bounds-known-row c =
+    let same = c.as_slice-row-items.ensures.value in
+    let size = ap length same in
+    rw same (omega (arith, low c.args.classes.now.items c.loop-row.row-index (omega arith) c.requires))

@@ -7,4 +7,4 @@ use Rattle.priorities.specs.Known.{known_of}
 use Rattle.priorities.proofs.known_classes.Given as goal
 
 abbrev pub invariant-loop-row : goal.invariant-loop-row
-invariant-loop-row l = l.known ≡ known_of (map paper_class (take l.row-index (take l.classes.count l.classes.rows)))
+invariant-loop-row l = l.known ≡ known_of (map paper_class (take l.row-index l.classes.items))

@@ -3,10 +3,9 @@
 use Prim.Native.Nat.{ℕ, zero, suc, ◌≤◌, ◌<◌}
 use native.Mathlib.Omega.{arith}
 use mathlib.Core.List.{List, [], ◌∷◌}
-use mathlib.Core.Path.{◌≡◌, refl, sym, ap, ◌∙◌}
+use mathlib.Core.Path.{◌≡◌, refl, sym, ap}
 use borrow.Author.Tests.{eq-eqb, ne_eqb, lt-ltb, le-ltb}
-use lib.ListN.{length, get_or, take}
-use lib.Seq.{get_or-take, length-take-le}
+use lib.ListN.{length, get_or}
 use Rattle.std.specs.Prelude.{Ok, Err}
 use Rattle.tables.specs.Ranks.{one_further, ranked_of}
 use Rattle.tables.proofs.ranked.Given as goal
@@ -34,44 +33,33 @@ module _ (own : ℕ) where
       rw (ne_eqb n own (λ e. omega arith), lt-ltb n own first, ranked_of)
       (ap one_further (would ns rank (λ k l. below (suc k) (omega arith)) (omega arith) (λ l. up (omega arith))))
 
-module _ (ns : List ℕ) (count own : ℕ) where
+module _ (ns : List ℕ) (own : ℕ) where
   -- All so far are below it, or the one at the rank is not
   pub data Course (rank more i : ℕ) : Type 0 where
     goes : more ≡ 1 → rank ≡ i → Course rank more i
-    passed : more ≡ 0 → (rank < count → own ≤ get_or ns rank 0) → Course rank more i
+    passed : more ≡ 0 → (rank < length ns → own ≤ get_or ns rank 0) → Course rank more i
 
   -- A rank found so far: those before it are below
   pub record Ranked (rank more i : ℕ) : Type 0 where
-    pub low : rank ≤ count
+    pub low : rank ≤ i
     pub below : (k : ℕ) → k < rank → get_or ns k 0 < own
     pub course : Course rank more i
 
-  module _ {rank more i : ℕ} (r : Ranked rank more i) where
+  module _ {rank more i : ℕ} (r : Ranked rank more i) (all : i ≡ length ns) where
     -- After the last turn
-    pub last : count ≤ i → rank < count → own ≤ get_or ns rank 0
-    last all l = go r.course
+    last : rank < length ns → own ≤ get_or ns rank 0
+    last l = go r.course
       where
         go : Course rank more i → own ≤ get_or ns rank 0
         go (goes m e) = absurd (omega arith)
         go (passed m ends) = ends l
 
-    module _ (fits : count ≤ length ns) (all : count ≤ i) where
-      same : (k : ℕ) → k < count → get_or (take count ns) k 0 ≡ get_or ns k 0
-      same k h = get_or-take count ns k 0 h
+    -- It stands at its rank, or would
+    pub ranked_there : rank < length ns → get_or ns rank 0 ≡ own → Ok rank ≡ ranked_of ns own
+    ranked_there l e = sym (stands own ns rank r.below l e)
 
-      size : length (take count ns) ≡ count
-      size = length-take-le count ns fits
+    pub ranked_new : (rank < length ns → get_or ns rank 0 ≡ own → ⊥) → Err rank ≡ ranked_of ns own
+    ranked_new other = sym (would own ns rank r.below (omega (arith, r.low)) (λ l. omega (arith, last l, other l)))
 
-      -- It stands at its rank, or would
-      pub ranked_there : rank < count → get_or ns rank 0 ≡ own → Ok rank ≡ ranked_of (take count ns) own
-      ranked_there l e =
-          sym (stands own (take count ns) rank (λ k h. rw (same k (omega (arith, r.low))) (r.below k h)) (rw size l) (same rank l ∙ e))
-
-      pub ranked_new : (rank < count → get_or ns rank 0 ≡ own → ⊥) → Err rank ≡ ranked_of (take count ns) own
-      ranked_new other =
-          sym
-          (would own (take count ns) rank (λ k h. rw (same k (omega (arith, r.low))) (r.below k h)) (rw size r.low)
-          (λ h. let l : rank < count = omega (arith, size) in rw (same rank l) (omega (arith, last all l, other l))))
-
-abbrev pub invariant-loop-i : goal.invariant-loop-i
-invariant-loop-i l = (length l.numbers-2 ≡ 8) × Ranked l.numbers-2 l.count l.own l.rank l.more l.i
+abbrev pub invariant-loop-number : goal.invariant-loop-number
+invariant-loop-number l = Ranked l.numbers l.own l.rank l.more l.number-index
