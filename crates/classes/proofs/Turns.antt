@@ -14,9 +14,9 @@ use Rattle.paper.specs.Rows as paper
 use Rattle.paper.specs.Refusals.{may_precede, class_kind}
 use Rattle.paper.specs.Tables.{hold}
 use Rattle.paper.proofs.Lists.{tests}
-use Rattle.tables.specs.Held.{no_class, held_class, class_table}
+use Rattle.tables.specs.Held.{held_class, class_table}
 use Rattle.tables.specs.declared.ClassRow.{ClassRow}
-use Rattle.tables.specs.declared.Classes.{Classes}
+use Rattle.arrayvec.specs.ArrayVec.{ArrayVec}
 use Rattle.answers.specs.Options.{answer}
 use Rattle.answers.specs.Refusals.{refusal}
 use Rattle.answers.specs.declared.Refusal.{Refusal}
@@ -29,7 +29,7 @@ use Rattle.classes.specs.declared.Seen.{Seen}
 use Rattle.classes.proofs.Rising.{Rising, nil, Formed, admitted, fits_all}
 
 -- The room
-abbrev pub room : Room paper.ClassRow ClassRow ClassRow Classes
+abbrev pub room : Room paper.ClassRow ClassRow ClassRow (ArrayVec ClassRow)
 room =
     record {
       kind = class_kind;
@@ -37,7 +37,6 @@ room =
       its_letter = refl;
       held = λ sheet at. held_class;
       most = 40;
-      free = no_class;
       kept = held_class;
       table = class_table;
     }

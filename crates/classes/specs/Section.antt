@@ -7,9 +7,10 @@ use Rattle.paper.specs.Sheet.{Rest}
 use Rattle.answers.specs.declared.Refused.{Refused}
 use Rattle.places.specs.Places.{Place}
 use Rattle.tables.specs.Held.{class_table}
-use Rattle.tables.specs.declared.Classes.{Classes}
+use Rattle.arrayvec.specs.ArrayVec.{ArrayVec}
+use Rattle.tables.specs.declared.ClassRow as tables
 use Rattle.sections.specs.Sections.{section_as}
 
 -- The section that starts at a place: its table with the place behind it, or its refusal
-abbrev pub class_section : Text → Place → Outcome (List ClassRow × Rest) → Result (Classes × Place) Refused
+abbrev pub class_section : Text → Place → Outcome (List ClassRow × Rest) → Result (ArrayVec tables.ClassRow × Place) Refused
 class_section = section_as class_table

@@ -119,11 +119,11 @@ pub fn class_section(
     requires { (from ≤ end) × (end ≡ ended_length s.now) }
     ensures { result ≡ class_section s.now from (section class_kind (first, lines (drop from s.now))) }
 {
-    let mut table = tables::no_classes();
+    let mut table = Classes::new();
     let mut at: Place = from;
     let mut seen = Seen::none();
     while sections::goes_on(s, at, end, b'C') {
-        let line = first as u64 + table.count as u64; // of the sheet
+        let line = first as u64 + table.len() as u64; // of the sheet
         let read = class_row(s, at, end);
         let Ok((row, next)) = read else {
             return Err(Refused {
@@ -131,11 +131,10 @@ pub fn class_section(
                 line,
             });
         };
-        if let Some(refusal) = broken(&seen, table.count, row) {
+        if let Some(refusal) = broken(&seen, table.len(), row) {
             return Err(Refused { refusal, line });
         }
-        table.rows[table.count] = row;
-        table.count += 1;
+        table.push(row);
         seen.add(row);
         at = next;
     }

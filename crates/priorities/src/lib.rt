@@ -92,18 +92,16 @@ pub fn priority_section(
     let mut table = Priorities::new();
     let mut at: Place = from;
     while sections::goes_on(s, at, end, b'O') {
+        let line = first as u64 + table.len() as u64; // of the sheet
         let read = priority_row(s, at, end);
         let Ok((row, next)) = read else {
             return Err(Refused {
                 refusal: read.unwrap_err(),
-                line: first as u64 + table.len() as u64,
+                line,
             });
         };
         if let Some(refusal) = broken(&known, table.len(), row) {
-            return Err(Refused {
-                refusal,
-                line: first as u64 + table.len() as u64,
-            });
+            return Err(Refused { refusal, line });
         }
         table.push(row);
         at = next;

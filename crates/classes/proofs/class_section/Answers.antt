@@ -6,27 +6,24 @@ use Rattle.tables.specs.declared.ClassRow.{ClassRow}
 use Rattle.tables.proofs.Numbers.{kind_below}
 use Rattle.classes.specs.Seen.{after_of}
 use Rattle.classes.specs.declared.Seen.{Seen}
-use Rattle.sections.proofs.Rooms.{turn_start, turn_counted, judging_refused, judging_row, judging_ended, judging_most}
+use Rattle.sections.proofs.Rooms.{turn_start, judging_refused, judging_row, judging_broken, judging_more, judging_ended}
 use Rattle.classes.proofs.Rising.{border_most}
 use Rattle.classes.proofs.Turns.{room, formed, judge}
 use Rattle.classes.proofs.class_section.Goals as goal
 
 pub loop-seen-init : goal.loop-seen-init
 loop-seen-init c =
-    rw (c.no_classes-table.ensures, c.none-seen.ensures)
+    rw (c.new-table.ensures, c.none-seen.ensures)
     (record { turn = turn_start room c.args.s.now c.args.from c.args.first (omega arith); seen_is = refl })
-
-pub overflow_add-line : goal.overflow_add-line
-overflow_add-line c = omega (arith, judging_most judge c.loop-seen.invariant)
 
 pub returns-in_default : goal.returns-in_default
 returns-in_default c =
-    judging_refused judge c.loop-seen.invariant c.requires.1 c.goes_on.ensures c.loop-seen-test.true c.class_row-read.ensures c.unwrap_err.ensures
+    judging_refused judge c.loop-seen.invariant c.requires.1 c.goes_on.ensures c.loop-seen-test.true c.class_row-read.ensures c.unwrap_err.ensures c.len.ensures.value
 
 pub returns-in-Some : goal.returns-in-Some
 returns-in-Some c =
     let r = judging_row judge c.loop-seen.invariant c.requires.1 c.goes_on.ensures c.loop-seen-test.true c.class_row-read.ensures c.in-Ok.is in
-    r.refuses _ (sym c.broken.ensures ∙ c.in-Some.is)
+    judging_broken judge c.loop-seen.invariant r c.len-in-loop-seen.ensures.value c.broken.ensures c.in-Some.is c.len.ensures.value
 
 pub loop-seen-smaller : goal.loop-seen-smaller
 loop-seen-smaller c =
@@ -37,11 +34,9 @@ pub loop-seen-preserved : goal.loop-seen-preserved
 loop-seen-preserved c =
     let r = judging_row judge c.loop-seen.invariant c.requires.1 c.goes_on.ensures c.loop-seen-test.true c.class_row-read.ensures c.in-Ok.is in
     rw c.add.ensures
-    (r.more (sym c.broken.ensures ∙ c.in_default-broken.is) _ (sym r.held_is) _
-    (ap₂ (λ (s : Seen) (c : ClassRow). after_of s c) c.loop-seen.invariant.seen_is (sym r.held_is)))
+    (judging_more judge c.loop-seen.invariant r c.len-in-loop-seen.ensures.value c.broken.ensures c.in_default-broken.is (sym r.held_is)
+    (ap₂ (λ (s : Seen) (c : ClassRow). after_of s c) c.loop-seen.invariant.seen_is (sym r.held_is)) c.push.ensures.items)
 
 pub returns : goal.returns
 returns c =
-    let t = c.loop-seen.invariant.turn in
-    let many = turn_counted room t in
-    judging_ended judge c.loop-seen.invariant c.requires.1 c.goes_on.ensures c.loop-seen-test.false (λ i. record { count = many i; rows = t.table_is i })
+    judging_ended judge c.loop-seen.invariant c.requires.1 c.goes_on.ensures c.loop-seen-test.false (λ i. record { items = c.loop-seen.invariant.turn.table_is i })

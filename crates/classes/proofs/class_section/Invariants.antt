@@ -6,7 +6,7 @@ use Rattle.classes.proofs.Turns.{judge}
 use Rattle.classes.proofs.class_section.Given as goal
 
 abbrev pub invariant-loop-seen : goal.invariant-loop-seen
-invariant-loop-seen l = Judging judge l.s l.from l.first l.table.rows l.table.count l.at l.seen
+invariant-loop-seen l = Judging judge l.s l.from l.first l.table.items l.at l.seen
 
 abbrev pub decreases-loop-seen : goal.decreases-loop-seen
 decreases-loop-seen l = l.end - l.at

@@ -21,7 +21,7 @@ pub returns-in-Some : goal.returns-in-Some
 returns-in-Some c =
     let all = judge (paper_classes c.args.classes.now) in
     let r = judging_row all c.loop-known.invariant c.requires.1 c.goes_on.ensures c.loop-known-test.true c.priority_row-read.ensures c.in-Ok.is in
-    judging_broken all c.loop-known.invariant r c.len-in-loop-known.ensures.value c.broken.ensures c.in-Some.is c.len-in-Some.ensures.value
+    judging_broken all c.loop-known.invariant r c.len-in-loop-known.ensures.value c.broken.ensures c.in-Some.is c.len.ensures.value
 
 pub loop-known-smaller : goal.loop-known-smaller
 loop-known-smaller c =
