@@ -93,16 +93,16 @@ module _ (sheet : Text) (l : DateLine sheet) where
 -- ---- a D row that the reader finds
 
 module _ (sheet date : Text) (letter : handed_out sheet 6 ≡ ascii "D;") (dated : handed_out sheet (behind_field sheet 6) ≡ date ++ (LF ∷ [])) where
-  pub behind_found : (drop 8 sheet ≡ date ++ (LF ∷ drop (field_length (drop 8 sheet)) (drop 8 sheet))) × (every plain date ≡ true)
+  behind_found : (drop 8 sheet ≡ date ++ (LF ∷ drop (field_length (drop 8 sheet)) (drop 8 sheet))) × (every plain date ≡ true)
   behind_found = ended_by (drop 8 sheet) date (ap (handed_out sheet) (sym (handed_size sheet 6 letter)) ∙ dated)
 
-  pub whole_found : drop 6 sheet ≡ 68 ∷ semicolon ∷ (date ++ (LF ∷ drop (field_length (drop 8 sheet)) (drop 8 sheet)))
+  whole_found : drop 6 sheet ≡ 68 ∷ semicolon ∷ (date ++ (LF ∷ drop (field_length (drop 8 sheet)) (drop 8 sheet)))
   whole_found =
       let size : field_length (drop 6 sheet) ≡ 2 = omega (arith, handed_size sheet 6 letter) in
       sym (take-append-drop (field_length (drop 6 sheet)) (drop 6 sheet))
       ∙ ap₂ (λ (t u : Text). t ++ u) letter (ap (λ (n : ℕ). drop n (drop 6 sheet)) size ∙ drop-drop 2 6 sheet ∙ behind_found.0)
 
-  abbrev pub found : DateLine sheet
+  abbrev found : DateLine sheet
   found =
       record {
         date = date;
@@ -189,44 +189,44 @@ refused_line fs number line = go (has_form fs) (is_good fs)
     go true false e = cc
     go true true e = let z : ◌≡◌ {A = ℕ} 0 1 = cc in absurd (omega arith)
 
--- With it, by its date
-module _ (sheet : Text) (l : DateLine sheet) where
+-- One that the reader finds is told by its date
+module _ (sheet date : Text) (letter : handed_out sheet 6 ≡ ascii "D;") (dated : handed_out sheet (behind_field sheet 6) ≡ date ++ (LF ∷ [])) where
   abbrev early : Bool
-  early = leb (date_in l.date) 23_991_220
+  early = leb (date_in date) 23_991_220
 
   abbrev by_test : Bool → Day → Result (Day × Place) Refusal
   by_test good d = cond good (Ok (d, two_fields sheet 6)) (Err (refusal 7))
 
-  told_there : date_read sheet ≡ by_test (is_day (date_in l.date) && early) (day (date_in l.date))
+  told_there : date_read sheet ≡ by_test (is_day (date_in date) && early) (day (date_in date))
   told_there =
-      ap (λ (fss : List Fields). told_by sheet (row date_kind [] 2 (get_or fss 0 []))) (lines_there sheet l)
-      ∙ go (is_good (ascii "D" ∷ l.date ∷ []))
+      ap (λ (fss : List Fields). told_by sheet (row date_kind [] 2 (get_or fss 0 []))) (lines_there sheet (found sheet date letter dated))
+      ∙ go (is_good (ascii "D" ∷ date ∷ []))
     where
-      go : (b : Bool) → told_by sheet (row_by (date_in l.date) true b) ≡ by_test b (day (date_in l.date))
+      go : (b : Bool) → told_by sheet (row_by (date_in date) true b) ≡ by_test b (day (date_in date))
       go true = refl
       go false = refl
 
   -- Too late a date is refused, and one that is no day
-  pub told_late : 23_991_220 < date_in l.date → Err (refusal 7) ≡ date_read sheet
-  told_late late = sym (told_there ∙ rw (lt-leb (date_in l.date) 23_991_220 late) (go (is_day (date_in l.date))))
+  pub told_late : 23_991_220 < date_in date → Err (refusal 7) ≡ date_read sheet
+  told_late late = sym (told_there ∙ rw (lt-leb (date_in date) 23_991_220 late) (go (is_day (date_in date))))
     where
-      go : (b : Bool) → by_test (b && false) (day (date_in l.date)) ≡ Err (refusal 7)
+      go : (b : Bool) → by_test (b && false) (day (date_in date)) ≡ Err (refusal 7)
       go true = refl
       go false = refl
 
-  pub told_none : answer (day_of (date_in l.date)) ≡ None → Err (refusal 7) ≡ date_read sheet
-  told_none e = sym (told_there ∙ go (day_of (date_in l.date)) e)
+  pub told_none : answer (day_of (date_in date)) ≡ None → Err (refusal 7) ≡ date_read sheet
+  told_none e = sym (told_there ∙ go (day_of (date_in date)) e)
     where
       go : (o : paper.Option Day) → answer o ≡ None → by_test (given o && early) (paper.get_or o 0) ≡ Err (refusal 7)
       go none e = refl
       go (some d) e = cc
 
   -- Any other is read
-  pub told_some : {today : Day} → date_in l.date ≤ 23_991_220 → answer (day_of (date_in l.date)) ≡ Some today → Ok (today, two_fields sheet 6) ≡ date_read sheet
-  told_some {today} h e = sym (told_there ∙ go (day_of (date_in l.date)) e)
+  pub told_some : {today : Day} → date_in date ≤ 23_991_220 → answer (day_of (date_in date)) ≡ Some today → Ok (today, two_fields sheet 6) ≡ date_read sheet
+  told_some {today} h e = sym (told_there ∙ go (day_of (date_in date)) e)
     where
       go : (o : paper.Option Day) → answer o ≡ Some today → by_test (given o && early) (paper.get_or o 0) ≡ Ok (today, two_fields sheet 6)
       go none e = cc
       go (some d) e =
           let same : d ≡ today = cc in
-          ap (λ (b : Bool). by_test b d) (le-leb (date_in l.date) 23_991_220 h) ∙ ap (λ (d : Day). Ok (d, two_fields sheet 6)) same
+          ap (λ (b : Bool). by_test b d) (le-leb (date_in date) 23_991_220 h) ∙ ap (λ (d : Day). Ok (d, two_fields sheet 6)) same

@@ -71,9 +71,10 @@ pub fn date_row(s: &[u8]) -> Result<(Day, Place), Refusal>
         return Err(Refusal::Row);
     }
     let text = reader.next().strip_suffix(b"\n").ok_or(Refusal::Row)?; // of the date
-    if LAST_DATE < fields::date(text) {
+    let date = fields::date(text);
+    if LAST_DATE < date {
         return Err(Refusal::Date);
     }
-    let day = fields::day(text).ok_or(Refusal::Date)?;
+    let day = days::day_of(date).ok_or(Refusal::Date)?;
     Ok((day, reader.at))
 }

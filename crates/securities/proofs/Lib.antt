@@ -1,3 +1,2 @@
 mod Row
-mod Codes
 mod Turns

@@ -1,33 +1,33 @@
 -- An S row by the readings of its fields.
 use Prim.Native.Nat.{ℕ, zero, suc, ◌+◌, ◌-◌}
 use native.Mathlib.Omega.{arith}
-use mathlib.Core.Bool.{Bool, true, false, cond, not, ◌&&◌, ◌||◌}
-use mathlib.Core.List.{[]}
-use mathlib.Core.Option
-use mathlib.Core.Option.{Option, some, map}
-use mathlib.Core.Path.{◌≡◌, refl, sym, ap, ◌∙◌}
+use mathlib.Core.Bool.{Bool, true, false, not, ◌&&◌, ◌||◌}
+use mathlib.Core.Option.{Option, none, some, some-injective, map}
+use mathlib.Core.Path.{◌≡◌, refl, sym, ap, ap₂, ◌∙◌}
 use borrow.Author.Tests.{ne_eqb, le-leb, lt-leb}
 use lib.Dec.{eqb, leb, ltb}
 use lib.ListN.{get_or}
-use Rattle.paper.specs.Units.{Text, Day, Duration}
-use Rattle.paper.specs.Days.{day_of, day}
-use Rattle.paper.specs.Lists.{between}
-use Rattle.paper.specs.Text.{date_in, is_code, is_currency}
+use Rattle.std.proofs.Common.{Some}
+use Rattle.std.specs.Bool.{then_some}
+use Rattle.paper.specs.Units.{Text, Fields, Date, Day, Duration}
+use Rattle.paper.specs.Days.{day_of}
+use Rattle.paper.specs.Lists.{between, when, ◌>>=◌}
+use Rattle.paper.specs.Text.{date_in, number_in, or_blank, is_code, is_currency}
 use Rattle.paper.specs.Rows as paper
-use Rattle.paper.specs.Rows.{field, kind_in, read_security}
-use Rattle.paper.specs.Refusals.{is_duration, follows, security_fields, security_kind}
-use Rattle.tables.specs.Numbers.{kind_number, code_number, currency_number, highest}
-use Rattle.places.specs.Places.{Place, line_at, field_text}
-use Rattle.codes.specs.Counts.{code_or, currency_or}
-use Rattle.fields.specs.Values.{or_highest, is_read, ranged_in, duration_in}
+use Rattle.paper.specs.Rows.{Kind, field, kind_in, read_security}
+use Rattle.paper.specs.Refusals.{is_duration, follows, security_fields}
+use Rattle.paper.proofs.Lists.{bind_some}
+use Rattle.answers.specs.Options.{answer}
+use Rattle.tables.specs.Numbers.{kind_number, code_number, currency_number}
+use Rattle.places.specs.Places.{Place, line_at}
 use Rattle.places.specs.declared.Line.{Line}
-use Rattle.fields.proofs.Readings.{kind_read, code_read, currency_read}
+use Rattle.codes.specs.Counts.{code_in, currency_in}
+use Rattle.fields.specs.Values.{ranged_in, duration_in}
 use Rattle.sections.specs.Sections.{fields_at}
-use Rattle.sections.proofs.Reading.{Lined, split, from_zero, following, closed, so_many, two_rules, lettered, ranged, lasting}
-use Rattle.securities.specs.Read.{taken_of, held_row, security_read}
+use Rattle.sections.proofs.Reading.{Lined, from_zero, gated, lettered, ranged, lasting, spanned, following}
+use Rattle.securities.specs.Read.{security_terms, coupon_dates, held_terms, held_row}
 use Rattle.securities.specs.declared.SecurityRow.{SecurityRow}
-use Rattle.securities.specs.declared.SecurityRead.{SecurityRead}
-use Rattle.securities.specs.declared.SecurityRead.TheVariants as reads
+use Rattle.securities.specs.declared.Terms.{Terms}
 
 -- 1, 2 or 4 is 1 to 4 and not 3
 pub payments_parts : (n : ℕ) → (eqb n 1 || eqb n 2 || eqb n 4) ≡ (between 1 4 n && not (eqb n 3))
@@ -40,186 +40,137 @@ payments_parts (suc (suc (suc (suc (suc n))))) =
     let m = suc (suc (suc (suc (suc n)))) in
     rw (ne_eqb m 1 (λ e. omega arith), ne_eqb m 2 (λ e. omega arith), ne_eqb m 4 (λ e. omega arith), le-leb 1 m (omega arith), lt-leb m 4 (omega arith))
 
--- A test in two parts, the second made later
-parted : {A : Type 0} (a b c : Bool) {x y : A} (z : A) → x ≡ y → cond (a && (b && c)) x z ≡ cond (a && b) (cond c y z) z
-parted true true c z e = ap (λ x. cond c x z) e
-parted true false c z e = refl
-parted false b c z e = refl
+-- ---- the fields that are no dates
 
--- A row with two numbers, each of which is the highest where its test fails
-numbered : {A : Type 0} (a b d p c t : Bool) (m n : ℕ) (row : ℕ → ℕ → A) (z : A)
-    → cond (a && b && d && p && c && t) (row m n) z ≡ cond (a && b && d && p && c && t) (row (cond a m highest) (cond b n highest)) z
-numbered true true d p c t m n row z = refl
-numbered true false d p c t m n row z = refl
-numbered false b d p c t m n row z = refl
+-- The terms that fields are read as, where they keep rule 6
+abbrev pub end : Option paper.SecurityRow → Option Terms
+end o = map held_terms (o >>= λ s. when (security_fields s) s)
+
+-- ... by the texts of its fields
+abbrev terms_behind : ℕ → ℕ → Text → Text → Text → Text → Text → Option Terms
+terms_behind number currency third fourth fifth sixth seventh =
+    map kind_number (kind_in third) >>= λ kind.
+    duration_in (ltb kind 2) fourth >>= λ duration.
+    ranged_in 1 20_000_000 fifth >>= λ price.
+    ranged_in 0 2_000_000 sixth >>= λ coupon.
+    ranged_in 1 4 seventh >>= λ payments.
+    when (not (eqb payments 3))
+    (record { number = number; currency = currency; kind = kind; duration = duration; price = price; coupon = coupon; payments = payments })
+
+abbrev terms_from : Text → Text → Text → Text → Text → Text → Text → Option Terms
+terms_from first second third fourth fifth sixth seventh =
+    code_in first >>= λ number. currency_in second >>= λ currency. terms_behind number currency third fourth fifth sixth seventh
+
+-- ... one after the other. A code and a currency are read as they stand, and are asked for their form by the rule
+one_by_one : (fs : Fields)
+    → end (read_security fs) ≡ terms_from (field 1 fs) (field 2 fs) (field 3 fs) (field 4 fs) (field 5 fs) (field 6 fs) (field 7 fs)
+one_by_one fs =
+    (let good = is_code (field 1 fs) && is_currency (field 2 fs) in
+    lettered end refl good (kind_in (field 3 fs)) kind_number _ _ λ kind.
+    lasting end refl good kind (field 4 fs) _ _ λ duration.
+    ranged end refl (good && is_duration kind duration) 1 20_000_000 (field 5 fs) _ _ λ price.
+    ranged end refl ((good && is_duration kind duration) && between 1 20_000_000 price) 0 2_000_000 (field 6 fs) _ _ λ coupon.
+    ranged end refl (((good && is_duration kind duration) && between 1 20_000_000 price) && between 0 2_000_000 coupon) 1 4 (field 7 fs) _ _ λ payments.
+    last kind duration price coupon payments)
+    ∙ sym (front (is_code (field 1 fs)) (is_currency (field 2 fs)))
+  where
+    front : (a b : Bool)
+        → (when a (code_number (field 1 fs)) >>= λ number. when b (currency_number (field 2 fs)) >>= λ currency.
+        terms_behind number currency (field 3 fs) (field 4 fs) (field 5 fs) (field 6 fs) (field 7 fs))
+        ≡ gated (a && b) (terms_behind (code_number (field 1 fs)) (currency_number (field 2 fs)) (field 3 fs) (field 4 fs) (field 5 fs) (field 6 fs) (field 7 fs))
+    front true true = refl
+    front true false = refl
+    front false b = refl
+
+    row : Kind → Option Duration → ℕ → ℕ → ℕ → paper.SecurityRow
+    row kind duration price coupon payments =
+        record {
+          code = field 1 fs;
+          currency = field 2 fs;
+          kind = kind;
+          duration = duration;
+          price = price;
+          coupon = coupon;
+          payments = payments;
+          previous = date_in (field 8 fs);
+          next = date_in (field 9 fs);
+        }
+
+    last : (kind : Kind) (duration : Option Duration) (price coupon payments : ℕ)
+        → end (some (row kind duration price coupon payments))
+        ≡ gated
+        (((((is_code (field 1 fs) && is_currency (field 2 fs)) && is_duration kind duration) && between 1 20_000_000 price) && between 0 2_000_000 coupon)
+        && between 1 4 payments)
+        (when (not (eqb payments 3)) (held_terms (row kind duration price coupon payments)))
+    last kind duration price coupon payments =
+        rw (payments_parts payments, from_zero 2_000_000 coupon)
+        (go (is_code (field 1 fs)) (is_currency (field 2 fs)) (is_duration kind duration) (between 1 20_000_000 price) (leb coupon 2_000_000)
+        (between 1 4 payments) (not (eqb payments 3)))
+      where
+        go : (a b d p c f t : Bool)
+            → map held_terms (when (a && b && d && p && c && (f && t)) (row kind duration price coupon payments))
+            ≡ gated (((((a && b) && d) && p) && c) && f) (when t (held_terms (row kind duration price coupon payments)))
+        go true true true true true true true = refl
+        go true true true true true true false = refl
+        go true true true true true false t = refl
+        go true true true true false f t = refl
+        go true true true false c f t = refl
+        go true true false p c f t = refl
+        go true false d p c f t = refl
+        go false b d p c f t = refl
+
+-- ---- the dates
+
+-- A row that was read has the dates of its fields
+dates_read : (fs : Fields) (s : paper.SecurityRow) → read_security fs ≡ some s → (s.previous ≡ date_in (field 8 fs)) × (s.next ≡ date_in (field 9 fs))
+dates_read fs s read =
+    let (kind, is_kind, kinded) = bind_some (kind_in (field 3 fs)) _ s read in
+    let (duration, is_duration, lasted) = bind_some (or_blank number_in (field 4 fs)) _ s kinded in
+    let (price, is_price, priced) = bind_some (number_in (field 5 fs)) _ s lasted in
+    let (coupon, is_coupon, paid) = bind_some (number_in (field 6 fs)) _ s priced in
+    let (payments, is_payments, whole) = bind_some (number_in (field 7 fs)) _ s paid in
+    let same = some-injective _ s whole in
+    (ap (λ (s : paper.SecurityRow). s.previous) (sym same), ap (λ (s : paper.SecurityRow). s.next) (sym same))
+
+-- Two days that are there, where the second follows the first
+pub followed : (p q : Option Day) {a b : Day} → Some a ≡ answer p → Some b ≡ answer q → then_some {T = Day × Day} (between 1 400 (b - a)) (a, b) ≡ answer (spanned 400 p q)
+followed none q e f = cc
+followed (some x) none e f = cc
+followed (some x) (some y) {a} {b} e f =
+    let first : x ≡ a = cc in
+    let last : y ≡ b = cc in
+    rw (first, last) (go (between 1 400 (b - a)))
+  where
+    go : (t : Bool) → then_some {T = Day × Day} t (a, b) ≡ answer (when t (a, b))
+    go true = refl
+    go false = refl
 
 module _ (sheet : Text) (at : Place) where
-  abbrev text : ℕ → Text
-  text k = field k (fields_at sheet at)
+  -- Its two days
+  abbrev pub dates : Terms → Option (Day × Day)
+  dates terms = spanned 400 (day_of (date_in (field 8 (fields_at sheet at)))) (day_of (date_in (field 9 (fields_at sheet at))))
 
-  abbrev end : Option paper.SecurityRow → SecurityRead
-  end = closed reads.Refused (λ s. reads.Row (held_row sheet at s) (line_at sheet at).next) (security_kind []).own
+  -- A row of terms and days, as it is held
+  abbrev pub whole : Terms → Day × Day → SecurityRow
+  whole terms days = record { code = get_or (line_at sheet at).ends 0 0 + 1; terms = terms; previous = days.0; next = days.1 }
 
-  -- The paper's row
-  abbrev paper_row : paper.Kind → Option Duration → ℕ → ℕ → ℕ → paper.SecurityRow
-  paper_row kind duration price coupon payments =
-      record {
-        code = text 1;
-        currency = text 2;
-        kind = kind;
-        duration = duration;
-        price = price;
-        coupon = coupon;
-        payments = payments;
-        previous = date_in (text 8);
-        next = date_in (text 9);
-      }
+  -- Rule 7 asks for them
+  pub dated : (s : paper.SecurityRow) → read_security (fields_at sheet at) ≡ some s
+      → when (follows 400 s.previous s.next) (held_row sheet at s) ≡ map (whole (held_terms s)) (dates (held_terms s))
+  dated s read =
+      let (first, last) = dates_read (fields_at sheet at) s read in
+      following 400 s.previous s.next (λ previous next. whole (held_terms s) (previous, next))
+      ∙ ap₂ (λ (p q : Date). map (whole (held_terms s)) (spanned 400 (day_of p) (day_of q))) first last
 
-  -- One field after the other
-  abbrev pub row_from : ℕ → ℕ → ℕ → ℕ → ℕ → SecurityRow
-  row_from kind duration price coupon payments =
-      record {
-        code = get_or (line_at sheet at).ends 0 0 + 1;
-        number = code_or (text 1);
-        currency = currency_or (text 2);
-        kind = kind;
-        duration = duration;
-        price = price;
-        coupon = coupon;
-        payments = payments;
-        previous = or_highest (day_of (date_in (text 8)));
-        next = or_highest (day_of (date_in (text 9)));
-      }
+  -- ---- what stands in the fields of the line
 
-  abbrev with_payments : ℕ → ℕ → ℕ → ℕ → ℕ → SecurityRead
-  with_payments kind duration price coupon payments =
-      cond (not (eqb payments 3))
-      (cond (between 1 400 (or_highest (day_of (date_in (text 9))) - or_highest (day_of (date_in (text 8)))))
-      (reads.Row (row_from kind duration price coupon payments) (line_at sheet at).next) (reads.Refused 7)) (reads.Refused 6)
+  module _ (line : Line) (l : Lined sheet at line 10) where
+    pub terms_read : end (read_security (fields_at sheet at)) ≡ security_terms sheet line.ends
+    terms_read =
+        one_by_one (fields_at sheet at)
+        ∙ (λ i. terms_from (l.parts 0 (omega arith) i) (l.parts 1 (omega arith) i) (l.parts 2 (omega arith) i) (l.parts 3 (omega arith) i)
+        (l.parts 4 (omega arith) i) (l.parts 5 (omega arith) i) (l.parts 6 (omega arith) i))
 
-  abbrev with_coupon : ℕ → ℕ → ℕ → ℕ → SecurityRead
-  with_coupon kind duration price coupon =
-      let payments = or_highest (ranged_in 1 4 (text 7)) in cond (is_read payments) (with_payments kind duration price coupon payments) (reads.Refused 6)
-
-  abbrev with_price : ℕ → ℕ → ℕ → SecurityRead
-  with_price kind duration price =
-      let coupon = or_highest (ranged_in 0 2_000_000 (text 6)) in cond (is_read coupon) (with_coupon kind duration price coupon) (reads.Refused 6)
-
-  abbrev with_duration : ℕ → ℕ → SecurityRead
-  with_duration kind duration =
-      let price = or_highest (ranged_in 1 20_000_000 (text 5)) in cond (is_read price) (with_price kind duration price) (reads.Refused 6)
-
-  abbrev with_kind : ℕ → SecurityRead
-  with_kind kind =
-      let duration = or_highest (duration_in (ltb kind 2) (text 4)) in cond (is_read duration) (with_duration kind duration) (reads.Refused 6)
-
-  -- A row whose fields were read
-  row_read : (kind : paper.Kind) (duration : Option Duration) (price coupon payments : ℕ)
-      → end (some (paper_row kind duration price coupon payments))
-      ≡ cond (is_code (text 1) && is_currency (text 2) && is_duration kind duration && between 1 20_000_000 price && between 0 2_000_000 coupon && between 1 4 payments)
-      (with_payments (kind_number kind) (Option.get_or duration 0) price coupon payments) (reads.Refused 6)
-  row_read kind duration price coupon payments =
-      let row : ℕ → ℕ → Day → Day → SecurityRead = λ number currency previous next.
-      reads.Row (record {
-        code = get_or (line_at sheet at).ends 0 0 + 1;
-        number = number;
-        currency = currency;
-        kind = kind_number kind;
-        duration = Option.get_or duration 0;
-        price = price;
-        coupon = coupon;
-        payments = payments;
-        previous = previous;
-        next = next;
-      }) (line_at sheet at).next
-      in
-      let s = paper_row kind duration price coupon payments in
-      let first = date_in (text 8) in
-      let second = date_in (text 9) in
-      let form = is_code (text 1) && is_currency (text 2) && is_duration kind duration && between 1 20_000_000 price && leb coupon 2_000_000 in
-      two_rules reads.Refused (λ s. reads.Row (held_row sheet at s) (line_at sheet at).next) 6 7 s (security_fields s) (follows 400 first second)
-      ∙ numbered (is_code (text 1)) (is_currency (text 2)) (is_duration kind duration) (between 1 20_000_000 price) (leb coupon 2_000_000)
-      (eqb payments 1 || eqb payments 2 || eqb payments 4) (code_number (text 1)) (currency_number (text 2))
-      (λ number currency. cond (follows 400 first second) (row number currency (day first) (day second)) (reads.Refused 7)) (reads.Refused 6)
-      ∙ rw (payments_parts payments, from_zero 2_000_000 coupon)
-      (parted form (between 1 4 payments) (not (eqb payments 3)) (reads.Refused 6)
-      (following 400 (omega arith) first second (row (code_or (text 1)) (currency_or (text 2))) (reads.Refused 7)))
-
-  pub security_fields_lem : end (read_security (fields_at sheet at))
-      ≡ (let kind = or_highest (map kind_number (kind_in (text 3))) in
-      let duration = or_highest (duration_in (ltb kind 2) (text 4)) in
-      let price = or_highest (ranged_in 1 20_000_000 (text 5)) in
-      let coupon = or_highest (ranged_in 0 2_000_000 (text 6)) in
-      let payments = or_highest (ranged_in 1 4 (text 7)) in
-      taken_of (is_read (code_or (text 1)) && is_read (currency_or (text 2)) && is_read kind && is_read duration && is_read price && is_read coupon && is_read payments && not (eqb payments 3))
-      (between 1 400 (or_highest (day_of (date_in (text 9))) - or_highest (day_of (date_in (text 8))))) (row_from kind duration price coupon payments) (line_at sheet at).next)
-  security_fields_lem =
-      let good = is_code (text 1) && is_currency (text 2) in
-      lettered end good (kind_in (text 3)) kind_number _ with_kind (kind_read (text 3)) (λ kind.
-      lasting end good kind (text 4) _ (with_duration (kind_number kind)) λ duration.
-      ranged end (good && is_duration kind duration) 1 20_000_000 (text 5) _ (with_price (kind_number kind) (Option.get_or duration 0)) (omega arith) λ price.
-      ranged end (good && is_duration kind duration && between 1 20_000_000 price) 0 2_000_000 (text 6) _
-      (with_coupon (kind_number kind) (Option.get_or duration 0) price) (omega arith) λ coupon.
-      ranged end (good && is_duration kind duration && between 1 20_000_000 price && between 0 2_000_000 coupon) 1 4 (text 7) _
-      (with_payments (kind_number kind) (Option.get_or duration 0) price coupon) (omega arith) λ payments.
-      row_read kind duration price coupon payments)
-      ∙ sym (rw (code_read (text 1), currency_read (text 2), split, split, split, split, split, split))
-
--- The row of a line, by what was read of its fields and whether anything was
-pub security_there : (s : Text) (at : Place) (line : Line) → Lined s at line 10
-    → {number currency kind duration price coupon payments previous next : ℕ} {a b c d e f g seven : Bool}
-    → number ≡ code_or (field_text s line.ends 0) → currency ≡ currency_or (field_text s line.ends 1)
-    → kind ≡ or_highest (map kind_number (kind_in (field_text s line.ends 2)))
-    → duration ≡ or_highest (duration_in (ltb kind 2) (field_text s line.ends 3))
-    → price ≡ or_highest (ranged_in 1 20_000_000 (field_text s line.ends 4)) → coupon ≡ or_highest (ranged_in 0 2_000_000 (field_text s line.ends 5))
-    → payments ≡ or_highest (ranged_in 1 4 (field_text s line.ends 6))
-    → previous ≡ or_highest (day_of (date_in (field_text s line.ends 7))) → next ≡ or_highest (day_of (date_in (field_text s line.ends 8)))
-    → a ≡ is_read number → b ≡ is_read currency → c ≡ is_read kind → d ≡ is_read duration → e ≡ is_read price → f ≡ is_read coupon → g ≡ is_read payments
-    → seven ≡ between 1 400 (next - previous)
-    → taken_of (a && b && c && d && e && f && g && not (eqb payments 3)) seven
-    (record {
-      code = get_or line.ends 0 0 + 1;
-      number = number;
-      currency = currency;
-      kind = kind;
-      duration = duration;
-      price = price;
-      coupon = coupon;
-      payments = payments;
-      previous = previous;
-      next = next;
-    }) line.next
-    ≡ security_read s at
-security_there s at line l e1 e2 e3 e4 e5 e6 e7 e8 e9 f1 f2 f3 f4 f5 f6 f7 f8 =
-    sym
-    (so_many reads.Refused (λ r. reads.Row (held_row s at r) (line_at s at).next) (security_kind []) (fields_at s at) l.count
-    ∙ security_fields_lem s at
-    ∙ rw (
-      l.parts 0 (omega arith),
-      l.parts 1 (omega arith),
-      l.parts 2 (omega arith),
-      l.parts 3 (omega arith),
-      l.parts 4 (omega arith),
-      l.parts 5 (omega arith),
-      l.parts 6 (omega arith),
-      l.parts 7 (omega arith),
-      l.parts 8 (omega arith),
-      f8,
-      f1,
-      f2,
-      f3,
-      f4,
-      f5,
-      f6,
-      f7,
-      e9,
-      e8,
-      e7,
-      e6,
-      e5,
-      e4,
-      e3,
-      e2,
-      e1,
-      l.same,
-    ))
+    pub days_read : (terms : Terms) → coupon_dates sheet line.ends ≡ dates terms
+    days_read terms =
+        ap₂ (λ (p q : Text). spanned 400 (day_of (date_in p)) (day_of (date_in q))) (sym (l.parts 7 (omega arith))) (sym (l.parts 8 (omega arith)))

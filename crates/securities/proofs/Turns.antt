@@ -1,54 +1,57 @@
--- The loop over the S rows, turn by turn: the table has the rows above, what judges a row is what they tell, and what the code
--- makes of a row is what the paper makes of it.
+-- The S section's room, how its rows are judged, and the loop turn by turn: the table has the rows above, what judges a row is what they
+-- tell, and what the code makes of a row is what the paper makes of it.
 use Prim.Native.Nat.{ℕ, zero, suc, ◌+◌, ◌≤◌, ◌<◌}
 use native.Mathlib.Omega.{arith}
 use mathlib.Core.Bool.{Bool, true, false, not, ◌&&◌, ◌||◌}
 use mathlib.Core.List.{List, [], ◌∷◌, ◌++◌, map, reverse, reverse-cons}
-use mathlib.Core.Option.{get_or}
+use mathlib.Core.Option as maybe
 use mathlib.Core.Path.{◌≡◌, refl, sym, ap, ap₂, ◌∙◌, subst}
+use Rattle.std.proofs.Common.{Option, Some, None, Result, Ok, Err, is_ok, ok_or}
 use lib.Dec.{T, eqb, ltb, ltb→lt}
-use lib.ListN.{length, take, set, replicate}
-use Rattle.paper.specs.Units.{Text, Number, Currency, Class}
+use lib.ListN.{length, take, set, replicate, length-map}
+use borrow.Author.Tests.{ltb-true}
+use Rattle.paper.specs.Units.{Text, Currency, Class, Line}
 use Rattle.paper.specs.Days.{day}
-use Rattle.paper.specs.Lists.{between}
-use Rattle.paper.specs.Text.{is_code, is_currency}
+use Rattle.paper.specs.Lists.{between, every, given}
+use Rattle.paper.specs.Text.{before, is_code, is_currency}
 use Rattle.paper.specs.Rows as paper
 use Rattle.paper.specs.Currencies.{currencies, has_currency}
 use Rattle.paper.specs.Valuation.{class_of}
-use Rattle.paper.specs.Refusals.{RowKind, is_duration, security_kind}
+use Rattle.paper.specs.Refusals.{is_duration, security_kind}
 use Rattle.paper.specs.Tables.{hold}
 use Rattle.paper.proofs.Lists.{tests, both, bounds, Each, nil, cons, each_map}
 use Rattle.paper.proofs.Days.{day_low}
 use Rattle.paper.proofs.Currencies.{currencies_reverse}
 use Rattle.paper.proofs.Rules.{SecurityFacts, security_facts}
-use Rattle.places.specs.Places.{Place, ended_length}
+use Rattle.places.specs.Places.{Place}
+use Rattle.answers.specs.Options.{answer}
+use Rattle.answers.specs.Refusals.{refusal}
+use Rattle.answers.specs.declared.Refusal.{Refusal}
+use Rattle.answers.specs.declared.Refusal.TheVariants.{Count, Order, Classless}
 use Rattle.tables.specs.Numbers.{code_number, currency_number, highest}
 use Rattle.tables.specs.Padded.{table_of}
 use Rattle.tables.specs.Held.{no_security, held_security, currency_table, security_table}
-use Rattle.tables.specs.Back.{paper_classes, ranged}
-use Rattle.tables.specs.declared.Classes.{Classes}
+use Rattle.tables.specs.Back.{paper_class}
+use Rattle.tables.specs.Ranks.{ranked_of, rank_of, inserted_at}
+use Rattle.tables.specs.declared.ClassRow.{ClassRow}
 use Rattle.tables.specs.declared.Currencies.{Currencies}
 use Rattle.tables.specs.declared.Securities.{Securities}
 use Rattle.tables.specs.declared.Security.{Security}
+use Rattle.tables.proofs.Numbers.{code_number_before}
 use Rattle.tables.proofs.Padded.{table_more, table_front}
-use Rattle.sections.specs.Sections.{goes_on, broken}
-use Rattle.sections.proofs.Loops.{Kept, none_kept, more_kept, Going}
-use Rattle.sections.proofs.Rooms as rooms
-use Rattle.sections.proofs.Rooms.{Room}
-use Rattle.securities.specs.Read.{held_row, security_read}
-use Rattle.classes.specs.Columns.{columns_of, class_in}
-use Rattle.tables.specs.Ranks.{ranked_of, inserted_at}
-use Rattle.securities.specs.Ranks.{with_rank}
-use Rattle.securities.specs.Section.{Small, broken_of, security_of}
-use Rattle.securities.specs.declared.SecurityRow.{SecurityRow}
-use Rattle.securities.specs.declared.SecurityRead.{SecurityRead}
-use Rattle.securities.specs.declared.SecurityRead.TheVariants as reads
-use Rattle.securities.specs.declared.SecuritySection.{SecuritySection}
-use Rattle.tables.specs.declared.Standing.{Standing}
-use Rattle.classes.proofs.Looked.{Classed, class_is, class_given, class_most, table_classed}
-use Rattle.securities.proofs.Codes.{last_of, last_before}
-use Rattle.securities.proofs.Row.{payments_parts}
 use Rattle.tables.proofs.Ranks.{Currencied, money_of, rank_place, rank_has, each_there, money_known, money_longer, money_new}
+use Rattle.sections.specs.Sections.{broken}
+use Rattle.sections.proofs.Loops.{Kept, none_kept, more_kept}
+use Rattle.sections.proofs.Rooms.{Room, Judge, Judging, Taken, turn_counted, judging_most}
+use Rattle.classes.specs.Search.{class_in}
+use Rattle.classes.proofs.Looked.{class_found, class_most}
+use Rattle.securities.specs.Read.{held_row}
+use Rattle.securities.specs.Ranks.{with_rank}
+use Rattle.securities.specs.Section.{Small, rises, judged_of, security_of}
+use Rattle.securities.specs.declared.SecurityRow.{SecurityRow}
+use Rattle.securities.proofs.Row.{payments_parts}
+
+-- ---- rows that keep the rules
 
 -- What the rules of a row by itself say
 record Formed (s : paper.SecurityRow) : Type 0 where
@@ -60,7 +63,7 @@ formed : (s : paper.SecurityRow) → T (hold ((security_kind []).own s)) → For
 formed s h = record { code = search tests; currency = search tests depth 8; duration = search tests depth 8 }
 
 -- Its numbers are in their ranges
-small : (sheet : Text) (at : Place) (s : paper.SecurityRow) → T (hold ((security_kind []).own s)) → Small (held_row sheet at s)
+pub small : (sheet : Text) (at : Place) (s : paper.SecurityRow) → T (hold ((security_kind []).own s)) → Small (held_row sheet at s)
 small sheet at s h =
     let pays : (eqb s.payments 1 || eqb s.payments 2 || eqb s.payments 4) ≡ true = search tests in
     record {
@@ -71,32 +74,39 @@ small sheet at s h =
       next = day_low s.next;
     }
 
--- Rows that keep the rules
-kept_facts : (cs : List paper.ClassRow) {above : List paper.SecurityRow} → Kept (security_kind cs) above → Each SecurityFacts above
-kept_facts cs none_kept = nil
-kept_facts cs (more_kept {r} {above} h kept) = cons (security_facts cs above r h) (kept_facts cs kept)
+module _ (cs : List paper.ClassRow) where
+  facts : {above : List paper.SecurityRow} → Kept (security_kind cs) above → Each SecurityFacts above
+  facts none_kept = nil
+  facts (more_kept {r} {above} h kept) = cons (security_facts cs above r h) (facts kept)
 
-currencied : {above : List paper.SecurityRow} → Each SecurityFacts above → Each Currencied above
-currencied = each_map (λ s f. f.currency)
+  currencied : {above : List paper.SecurityRow} → Kept (security_kind cs) above → Each Currencied above
+  currencied kept = each_map (λ s f. f.currency) (facts kept)
 
--- There is room for them
-kept_most : (cs : List paper.ClassRow) {above : List paper.SecurityRow} → Kept (security_kind cs) above → length above ≤ 200
-kept_most cs none_kept = omega arith
-kept_most cs (more_kept {above} h kept) = let less : length above < 200 = search tests in less
+  -- There was room for the last
+  pub few : {above : List paper.SecurityRow} {s : paper.SecurityRow} → Kept (security_kind cs) (s ∷ above) → length above < 200
+  few (more_kept h kept) = search tests
 
--- ... and for the currency of the last
-eighth : (cs : List paper.ClassRow) {above : List paper.SecurityRow} {s : paper.SecurityRow} → Kept (security_kind cs) (s ∷ above)
-    → T (has_currency above s.currency || ltb (length (currencies above)) 8)
-eighth cs (more_kept h kept) = search tests depth 8
+  -- ... and for its currency
+  eighth : {above : List paper.SecurityRow} {s : paper.SecurityRow} → Kept (security_kind cs) (s ∷ above)
+      → T (has_currency above s.currency || ltb (length (currencies above)) 8)
+  eighth (more_kept h kept) = search tests depth 8
 
--- What is true of each is true of each in the reverse order
-each_last : {A : Type 0} {P : A → Type 0} {xs : List A} {x : A} → Each P xs → P x → Each P (xs ++ (x ∷ []))
-each_last nil p = cons p nil
-each_last (cons q each) p = cons q (each_last each p)
+  -- Currencies are no more than there is room for
+  pub few_currencies : {above : List paper.SecurityRow} → Kept (security_kind cs) above → length (currencies above) ≤ 8
+  few_currencies none_kept = omega arith
+  few_currencies (more_kept {r = s} {above} h kept) = go (is_ok (ranked_of (money_of above) (currency_number s.currency))) refl (few_currencies kept)
+    where
+      own : Currencied s
+      own = (security_facts cs above s h).currency
 
-each_reverse : {A : Type 0} {P : A → Type 0} {xs : List A} → Each P xs → Each P (reverse xs)
-each_reverse nil = nil
-each_reverse {P} (cons {a} {rest} p each) = subst (Each P) (sym (reverse-cons a rest)) (each_last (each_reverse each) p)
+      go : (b : Bool) → is_ok (ranked_of (money_of above) (currency_number s.currency)) ≡ b → length (currencies above) ≤ 8 → length (currencies (s ∷ above)) ≤ 8
+      go true e rest = rw (money_known above (currencied kept) s own e) rest
+      go false e rest =
+          let has : has_currency above s.currency ≡ false = sym (rank_has above (currencied kept) s.currency own) ∙ e in
+          let free = ltb→lt (length (currencies above)) 8 (rw has at (eighth (more_kept {r = s} h kept))) in
+          omega (arith, money_longer above (currencied kept) s own e, free)
+
+-- ---- the room, and how a row is judged
 
 -- A row as it is held before the place of its currency is known
 abbrev unranked : List paper.ClassRow → paper.SecurityRow → Security
@@ -107,7 +117,7 @@ unranked cs s =
       payments = s.payments;
       previous = day s.previous;
       next = day s.next;
-      class = get_or (class_of cs s.kind s.duration) 0;
+      class = maybe.get_or (class_of cs s.kind s.duration) 0;
       currency = 0;
     }
 
@@ -118,9 +128,47 @@ code_of s = code_number s.code
 abbrev own_money : paper.SecurityRow → ℕ
 own_money s = currency_number s.currency
 
+-- The room
+abbrev pub room : List paper.ClassRow → Room paper.SecurityRow SecurityRow Security Securities
+room cs =
+    record {
+      kind = security_kind cs;
+      letter = 83;
+      its_letter = refl;
+      held = held_row;
+      most = 200;
+      free = no_security;
+      kept = unranked cs;
+      table = security_table cs;
+    }
+
+-- The number of the nearest code
+abbrev pub last_of : List paper.SecurityRow → Option ℕ
+last_of [] = None
+last_of (s ∷ above) = Some (code_of s)
+
+-- Rule 9 by that number
+last_before : (above : List paper.SecurityRow) → Each SecurityFacts above → (s : paper.SecurityRow) → is_code s.code ≡ true
+    → rises (last_of above) (code_of s) ≡ every (λ a. before a.code s.code) (take 1 above)
+last_before [] nil s p = refl
+last_before (a ∷ above) (cons f each) s p = sym (code_number_before a.code s.code f.code p) ∙ go (before a.code s.code)
+  where
+    go : (t : Bool) → t ≡ elim t [ true ↦ true | false ↦ false ]
+    go true = refl
+    go false = refl
+
+-- What is true of each is true of each in the reverse order
+each_last : {A : Type 0} {P : A → Type 0} {xs : List A} {x : A} → Each P xs → P x → Each P (xs ++ (x ∷ []))
+each_last nil p = cons p nil
+each_last (cons q each) p = cons q (each_last each p)
+
+each_reverse : {A : Type 0} {P : A → Type 0} {xs : List A} → Each P xs → Each P (reverse xs)
+each_reverse nil = nil
+each_reverse {P} (cons {a} {rest} p each) = subst (Each P) (sym (reverse-cons a rest)) (each_last (each_reverse each) p)
+
 -- The rows of a table with the places of their currencies
 ranked_rows : (cs : List paper.ClassRow) (all : List Currency) (most : ℕ) (ss : List paper.SecurityRow) (free : List Security)
-    → Each (λ s. (ranked_of (map currency_number all) (own_money s)).there ≡ true) ss
+    → Each (λ s. is_ok (ranked_of (map currency_number all) (own_money s)) ≡ true) ss
     → with_rank (map currency_number all) (map own_money ss) (take most (map (unranked cs) ss ++ free)) ≡ take most (map (held_security cs all) ss ++ free)
 ranked_rows cs all most [] free nil = refl
 ranked_rows cs all zero (s ∷ ss) free each = refl
@@ -133,226 +181,230 @@ ranked_rows cs all (suc most) (s ∷ ss) free (cons t each) =
       payments = s.payments;
       previous = day s.previous;
       next = day s.next;
-      class = get_or (class_of cs s.kind s.duration) 0;
+      class = maybe.get_or (class_of cs s.kind s.duration) 0;
       currency = placed i;
     } ∷ rest i
 
--- S rows, with the classes of a table
-abbrev kind_with : Classes → RowKind paper.SecurityRow
-kind_with classes = security_kind (paper_classes classes)
+-- What the rows above tell: their currencies, which judge a row with the last code, and what is kept of each of them
+pub record Told : Type 0 where
+  pub currencies : Currencies
+  pub last : Option ℕ
+  pub codes : List ℕ
+  pub money : List ℕ
 
--- The room
-abbrev pub room : Classes → Room paper.SecurityRow SecurityRead SecurityRow Security SecuritySection Securities
-room classes =
+abbrev pub told_by : List paper.SecurityRow → Told
+told_by above =
     record {
-      kind = kind_with classes;
-      numbers = λ above s. refl;
-      letter = 83;
-      its_letter = refl;
-      refuse = reads.Refused;
-      row = λ s next. reads.Row s next;
-      words = record {
-        apart = λ number s next e. let z : ◌≡◌ {A = ℕ} 0 1 = cc in absurd (omega arith);
-        one = λ s t m n e. (cc, cc);
-        number = λ m n e. cc;
-      };
-      held = held_row;
-      most = 200;
-      free = no_security;
-      kept = unranked (paper_classes classes);
-      make = λ section table. record { section = section; table = table };
-      table = security_table (paper_classes classes);
+      currencies = currency_table (currencies above);
+      last = last_of above;
+      codes = table_of 256 highest code_of (reverse above);
+      money = table_of 200 0 own_money (reverse above);
     }
 
--- After so many rows
-pub record Turn (classes : Classes) (sheet : Text) (from : Place) (rows : List Security) (codes money : List ℕ) (held : Currencies)
-    (last count : ℕ) (at : Place) : Type 0 where
-  pub within : ranged classes ≡ true
-  pub turn : rooms.Turn (room classes) sheet from rows count at
-  pub codes_are : codes ≡ table_of 256 highest code_of (reverse turn.above)
-  pub money_are : money ≡ table_of 200 0 own_money (reverse turn.above)
-  pub held_are : held ≡ currency_table (currencies turn.above)
-  pub few : length (currencies turn.above) ≤ 8
-  pub last_is : last ≡ last_of turn.above
+-- The first numbers kept of currencies are those of the rows
+first_money : (above : List paper.SecurityRow) {count : ℕ} {seen : Told} → count ≡ length (reverse above) → count ≤ 200 → seen ≡ told_by above
+    → take count seen.money ≡ map own_money (reverse above)
+first_money above {count} {seen} many few seen_is =
+    let money_are : seen.money ≡ table_of 200 0 own_money (reverse above) = ap (λ (told : Told). told.money) seen_is in
+    rw (money_are, many) (table_front 200 0 own_money (reverse above) (omega (arith, many, few)))
 
-pub turn_start : (classes : Classes) (sheet : Text) (from : Place) → ranged classes ≡ true → from ≤ ended_length sheet
-    → Turn classes sheet from (security_table [] []).rows (security_table [] []).codes (table_of 200 0 own_money []) (security_table [] []).currencies 0 0 from
-turn_start classes sheet from within h =
-    record {
-      within = within;
-      turn = rooms.turn_start (room classes) sheet from h;
-      codes_are = refl;
-      money_are = refl;
-      held_are = refl;
-      few = omega arith;
-      last_is = refl;
-    }
+-- The table of rows that keep the rules, with the places of their currencies
+ranked_table : (cs : List paper.ClassRow) (above : List paper.SecurityRow) → Kept (security_kind cs) above
+    → {count : ℕ} {held : List Security} {seen : Told} → count ≡ length (reverse above) → count ≤ 200
+    → held ≡ table_of 200 no_security (unranked cs) (reverse above) → seen ≡ told_by above
+    → record {
+      count = count;
+      rows = with_rank (take seen.currencies.count seen.currencies.numbers) (take count seen.money) held;
+      codes = seen.codes;
+      currencies = seen.currencies;
+    } ≡ security_table cs (reverse above)
+ranked_table cs above kept {count} {held} {seen} many few held_is seen_is =
+    let ss = reverse above in
+    let all : currencies above ≡ currencies ss = sym (currencies_reverse above) in
+    let currencies_are : seen.currencies ≡ currency_table (currencies ss) = ap (λ (told : Told). told.currencies) seen_is ∙ ap currency_table all in
+    let numbers : take seen.currencies.count seen.currencies.numbers ≡ map currency_number (currencies ss) =
+    rw currencies_are (table_front 8 0 currency_number (currencies ss) (rw (sym all) (few_currencies cs kept))) in
+    let own : take count seen.money ≡ map own_money ss = first_money above many few seen_is in
+    let each = subst (λ (ds : List Currency). Each (λ s. is_ok (ranked_of (map currency_number ds) (own_money s)) ≡ true) ss) all
+    (each_reverse (each_there above (currencied cs kept))) in
+    let ranks : with_rank (take seen.currencies.count seen.currencies.numbers) (take count seen.money) held
+    ≡ table_of 200 no_security (held_security cs (currencies ss)) ss =
+    rw (numbers, own, held_is) (ranked_rows cs (currencies ss) 200 ss (replicate 200 no_security) each)
+    in
+    λ i. record { count = many i; rows = ranks i; codes = (seen_is i).codes; currencies = currencies_are i }
 
--- Where the currency of a row stands among those held, and the class that is found for it
-abbrev pub standing_in : Currencies → SecurityRow → Standing
-standing_in held s = ranked_of (take held.count held.numbers) s.currency
+-- A class, or the rule that is broken
+abbrev pub rule_of : Result Class Refusal → Option Refusal
+rule_of (Ok class) = None
+rule_of (Err f) = Some f
 
-abbrev pub class_for : Classes → SecurityRow → Class
-class_for t s =
-    let all = columns_of t.rows in
-    class_in (take t.count all.kinds) (take t.count all.borders) (take t.count all.numbers) s.kind s.duration
+-- Of a row with no rule broken: there is room, and it has a class
+pub judged_ok : (count many number : ℕ) (there : Bool) (last : Option ℕ) (found : Option Class) (class : Class)
+    → judged_of count there many last number found ≡ Ok class → (there ≡ false → many < 8) × (found ≡ Some class)
+judged_ok count many number there last found class = go (ltb count 200) there (ltb many 8) refl (rises last number) found
+  where
+    judged : Bool → Bool → Option Class → Result Class Refusal
+    judged room rising o = elim room [ false ↦ Err Count | true ↦ elim rising [ false ↦ Err Order | true ↦ ok_or o Classless ] ]
 
--- A row below others, as the paper has it and as it is held
-module _ (above : List paper.SecurityRow) (facts : Each SecurityFacts above) (few : length (currencies above) ≤ 8) (s : paper.SecurityRow) (form : Formed s)
-    (sheet : Text) (at : Place) where
-  -- Its currency stands where its number does
-  its_standing : standing_in (currency_table (currencies above)) (held_row sheet at s) ≡ ranked_of (money_of above) (own_money s)
-  its_standing = ap (λ (ns : List ℕ). ranked_of ns (own_money s)) (table_front 8 0 currency_number (currencies above) few)
+    go : (a b c : Bool) → ltb many 8 ≡ c → (d : Bool) (o : Option Class) → judged (a && (b || c)) d o ≡ Ok class
+        → (b ≡ false → many < 8) × (o ≡ Some class)
+    go false b c e d o h = cc
+    go true false false e d o h = cc
+    go true b c e false o h = cc
+    go true b c e true None h = cc
+    go true true c e true (Some k) h = ((λ z. cc), cc)
+    go true false true e true (Some k) h = ((λ z. ltb-true many 8 e), cc)
 
-  module _ (classes : Classes) (within : ranged classes ≡ true) where
-    -- Its class is the paper's
-    its_class : Classed (class_for classes (held_row sheet at s)) (class_of (paper_classes classes) s.kind s.duration)
-    its_class = table_classed s.kind s.duration form.duration classes within
+-- C rows of a table
+module _ (rows : List ClassRow) where
+  abbrev cs : List paper.ClassRow
+  cs = map paper_class rows
 
-    -- It is judged as the paper judges it
-    alike : let held = currency_table (currencies above) in
-        broken_of (length above) (standing_in held (held_row sheet at s)).there held.count (last_of above) (code_of s) (class_for classes (held_row sheet at s))
-        ≡ broken ((kind_with classes).others above s)
-    alike =
-        let eight = ap (λ (s : Standing). s.there) its_standing ∙ rank_has above (currencied facts) s.currency form.currency in
-        let nine = last_before above facts s form.code in
-        let eleven = class_given its_class in
-        λ i. broken ((8, ltb (length above) 200 && (eight i || ltb (length (currencies above)) 8)) ∷ (9, nine i) ∷ (11, eleven i) ∷ [])
+  -- Whether the currency of a row stands above, and how it is judged
+  abbrev pub judged_by : Told → ℕ → SecurityRow → Result Class Refusal
+  judged_by told count s =
+      judged_of count (is_ok (ranked_of (take told.currencies.count told.currencies.numbers) s.terms.currency)) told.currencies.count told.last s.terms.number
+      (class_in rows s.terms.kind s.terms.duration)
 
-module _ {classes : Classes} {sheet : Text} {from : Place} {rows : List Security} {codes money : List ℕ} {held : Currencies} {last count : ℕ} {at : Place} where
-  module _ (t : Turn classes sheet from rows codes money held last count at) where
-    facts : Each SecurityFacts t.turn.above
-    facts = kept_facts (paper_classes classes) t.turn.going.kept
+  -- It is judged as the paper judges it
+  pub alike : (sheet : Text) (at : Place) (above : List paper.SecurityRow) (s : paper.SecurityRow) → Kept (security_kind cs) above
+      → T (hold ((security_kind cs).own s))
+      → rule_of (judged_by (told_by above) (length above) (held_row sheet at s)) ≡ answer (maybe.map refusal (broken ((security_kind cs).others above s)))
+  alike sheet at above s kept own =
+      let form = formed s own in
+      let eight = ap (λ (ns : List ℕ). is_ok (ranked_of ns (own_money s))) (table_front 8 0 currency_number (currencies above) (few_currencies cs kept))
+      ∙ rank_has above (currencied cs kept) s.currency form.currency in
+      let nine = last_before above (facts cs kept) s form.code in
+      let eleven = class_found s.kind s.duration form.duration rows in
+      (λ i. judged (ltb (length above) 200 && (eight i || ltb (length (currencies above)) 8)) (nine i) (eleven i))
+      ∙ go (ltb (length above) 200 && (has_currency above s.currency || ltb (length (currencies above)) 8)) (every (λ a. before a.code s.code) (take 1 above))
+      (class_of cs s.kind s.duration)
+    where
+      judged : Bool → Bool → Option Class → Option Refusal
+      judged room rising found = rule_of (elim room [ false ↦ Err Count | true ↦ elim rising [ false ↦ Err Order | true ↦ ok_or found Classless ] ])
 
-    -- No more than the tables have places
-    pub turn_most : (count ≤ 200) × (held.count ≤ 8)
-    turn_most = (omega (arith, t.turn.going.counted, kept_most (paper_classes classes) t.turn.going.kept), rw t.held_are t.few)
+      go : (room rising : Bool) (o : maybe.Option Class)
+          → judged room rising (answer o) ≡ answer (maybe.map refusal (broken ((8, room) ∷ (9, rising) ∷ (11, given o) ∷ [])))
+      go false rising o = refl
+      go true false o = refl
+      go true true maybe.none = refl
+      go true true (maybe.some class) = refl
 
-    -- A row that was read
-    pub record Read (s : SecurityRow) (next : Place) : Type 0 where
-      on : goes_on sheet at (ended_length sheet) 83 ≡ true
-      line : rooms.Read (room classes) t.turn on s next
+  abbrev pub judge : Judge (room cs) Told
+  judge = record { tell = told_by; judge = λ told count s. rule_of (judged_by told count s); alike = alike; few = few cs }
 
-    pub turn_row : goes_on sheet at (ended_length sheet) 83 ≡ true → (s : SecurityRow) (next : Place) → security_read sheet at ≡ reads.Row s next → Read s next
-    turn_row on s next e = record { on = on; line = rooms.turn_row (room classes) t.turn on s next e }
+  -- ---- the loop
 
-    -- The end of the section
-    pub turn_ended : goes_on sheet at (ended_length sheet) 83 ≡ false
-        → (room classes).make (record { refusal = 0; count = count; next = at })
-        (record { count = count; rows = with_rank (take held.count held.numbers) (take count money) rows; codes = codes; currencies = held })
-        ≡ rooms.result (room classes) sheet from
-    turn_ended off =
-        let ss = reverse t.turn.above in
-        let many : count ≡ length ss = rooms.turn_counted (room classes) t.turn in
-        let all : currencies t.turn.above ≡ currencies ss = sym (currencies_reverse t.turn.above) in
-        let held_is : held ≡ currency_table (currencies ss) = t.held_are ∙ ap currency_table all in
-        let numbers : take held.count held.numbers ≡ map currency_number (currencies ss) = rw held_is (table_front 8 0 currency_number (currencies ss) (rw all at t.few)) in
-        let own : take count money ≡ map own_money ss = rw (t.money_are, many) (table_front 200 0 own_money ss (omega (arith, turn_most.0))) in
-        let each = subst (λ (ds : List Currency). Each (λ s. (ranked_of (map currency_number ds) (own_money s)).there ≡ true) ss) all (each_reverse (each_there t.turn.above (currencied facts))) in
-        let ranks : with_rank (take held.count held.numbers) (take count money) rows ≡ table_of 200 no_security (held_security (paper_classes classes) (currencies ss)) ss =
-        rw (numbers, own, t.turn.table_is) (ranked_rows (paper_classes classes) (currencies ss) 200 ss (replicate 200 no_security) each)
-        in
-        rooms.turn_ended (room classes) t.turn off
-        (λ i. record { count = many i; rows = ranks i; codes = t.codes_are i; currencies = held_is i })
+  -- After so many rows
+  module _ {sheet : Text} {from : Place} {first : Line} {held : List Security} {count : ℕ} {at : Place} {seen : Told}
+      (t : Judging judge sheet from first held count at seen) where
+    abbrev above : List paper.SecurityRow
+    above = t.turn.above
 
-  module _ {t : Turn classes sheet from rows codes money held last count at} {s : SecurityRow} {next : Place} (r : Read t s next) where
-    -- The paper's row
-    abbrev row : paper.SecurityRow
-    row = r.line.row_is
+    kept : Kept (security_kind cs) above
+    kept = t.turn.going.kept
 
-    form : Formed row
-    form = formed row r.line.own
+    -- The currencies are those of the rows above
+    currencies_are : seen.currencies ≡ currency_table (currencies above)
+    currencies_are = ap (λ (told : Told). told.currencies) t.seen_is
 
-    held_row_lem : held_row sheet at row ≡ s
-    held_row_lem = r.line.held_is
+    -- A row is judged by what was found of it
+    pub turn_judged : (s : SecurityRow) {place : Result ℕ ℕ} {there : Bool} {found : Option Class} {judged : Result Class Refusal}
+        → place ≡ ranked_of (take seen.currencies.count seen.currencies.numbers) s.terms.currency → there ≡ is_ok place
+        → found ≡ class_in rows s.terms.kind s.terms.duration → judged ≡ judged_of count there seen.currencies.count seen.last s.terms.number found
+        → judged_by seen count s ≡ judged
+    turn_judged s ranked is class judged =
+        let there = is ∙ ap is_ok ranked in
+        sym (judged ∙ (λ i. judged_of count (there i) seen.currencies.count seen.last s.terms.number (class i)))
 
-    each_money : Each Currencied t.turn.above
-    each_money = currencied (facts t)
+    -- No more than there is room for
+    pub turn_currencies : seen.currencies.count ≤ 8
+    turn_currencies = rw currencies_are (few_currencies cs kept)
 
-    -- It fits the table
-    pub turn_small : Small s
-    turn_small = subst Small held_row_lem (small sheet at row r.line.own)
+    -- A row that was read, with the class that it has where it breaks no rule
+    module _ {s : SecurityRow} {next : Place} (r : Taken judge t s next) {class : Class} (ok : judged_by seen count s ≡ Ok class) where
+      abbrev row : paper.SecurityRow
+      row = r.row_is
 
-    classed : Classed (class_for classes s) (class_of (paper_classes classes) row.kind row.duration)
-    classed =
-        subst (λ (s : SecurityRow). Classed (class_for classes s) (class_of (paper_classes classes) row.kind row.duration)) held_row_lem
-        (its_class t.turn.above (facts t) t.few row form sheet at classes t.within)
+      own : Currencied row
+      own = (formed row r.own).currency
 
-    pub turn_class : class_for classes s ≤ 40
-    turn_class = class_most classed
+      clear : rule_of (judged_by seen count s) ≡ None
+      clear = ap rule_of ok
 
-    -- The next line is further on
-    pub turn_further : (at < next) × (next ≤ ended_length sheet)
-    turn_further = r.line.further
-
-    -- It is judged as the paper judges it
-    abbrev pub judgment : Number
-    judgment = broken_of count (standing_in held s).there held.count last s.number (class_for classes s)
-
-    same : judgment ≡ broken ((kind_with classes).others t.turn.above row)
-    same =
-        let judge : Currencies → ℕ → ℕ → SecurityRow → Number = λ held count last s.
-        broken_of count (standing_in held s).there held.count last s.number (class_for classes s)
-        in
-        (λ i. judge (t.held_are i) (t.turn.going.counted i) (t.last_is i) (sym held_row_lem i))
-        ∙ alike t.turn.above (facts t) t.few row form sheet at classes t.within
-
-    -- A rule that it breaks refuses the section
-    pub turn_broken : (number : ℕ) → number ≡ judgment → (number ≡ 0 → ⊥) → rooms.refused_with (room classes) number count ≡ rooms.result (room classes) sheet from
-    turn_broken number is = rooms.turn_broken (room classes) t.turn r.on r.line (is ∙ same)
-
-    -- Where it breaks none the section goes on
-    module _ (none : judgment ≡ 0) where
-      goes : Going (kind_with classes) sheet from (row ∷ t.turn.above) (count + 1) next
-      goes = rooms.turn_going (room classes) t.turn r.on r.line same none
-
+      -- It fits the table
       pub turn_free : count < 200
-      turn_free = omega (arith, t.turn.going.counted, kept_most (paper_classes classes) goes.kept)
+      turn_free = r.free clear
 
-      -- The currencies held, with its own
-      module _ (st : Standing) (stands : st ≡ standing_in held s) where
-        standing_is : ranked_of (money_of t.turn.above) (own_money row) ≡ st
-        standing_is =
-            sym (stands ∙ (λ i. standing_in (t.held_are i) (sym held_row_lem i)) ∙ its_standing t.turn.above (facts t) t.few row form sheet at)
+      pub turn_small : Small s
+      turn_small = subst Small r.held_is (small sheet at row r.own)
 
-        there_is : (ranked_of (money_of t.turn.above) (own_money row)).there ≡ st.there
-        there_is = ap (λ (s : Standing). s.there) standing_is
+      told : (is_ok (ranked_of (take seen.currencies.count seen.currencies.numbers) s.terms.currency) ≡ false → seen.currencies.count < 8)
+          × (class_in rows s.terms.kind s.terms.duration ≡ Some class)
+      told = judged_ok count seen.currencies.count s.terms.number _ seen.last _ class ok
 
-        pub turn_room : st.there ≡ false → held.count < 8
-        turn_room e =
-            let has : has_currency t.turn.above row.currency ≡ false = sym (rank_has t.turn.above each_money row.currency form.currency) ∙ there_is ∙ e in
-            rw t.held_are (ltb→lt (length (currencies t.turn.above)) 8 (rw has at (eighth (paper_classes classes) goes.kept)))
+      pub turn_class : every (λ c. between 1 40 c.class) rows ≡ true → class ≤ 40
+      turn_class within = class_most s.terms.kind s.terms.duration rows within class told.1
 
-        pub turn_known : st.there ≡ true → held ≡ currency_table (currencies (row ∷ t.turn.above))
-        turn_known e = t.held_are ∙ ap currency_table (sym (money_known t.turn.above each_money row form.currency (there_is ∙ e)))
+      class_is : class ≡ maybe.get_or (class_of cs row.kind row.duration) 0
+      class_is =
+          go (class_of cs row.kind row.duration)
+          (sym (class_found row.kind row.duration (formed row r.own).duration rows)
+          ∙ ap (λ (s : SecurityRow). class_in rows s.terms.kind s.terms.duration) r.held_is ∙ told.1)
+        where
+          go : (o : maybe.Option Class) → answer o ≡ Some class → class ≡ maybe.get_or o 0
+          go maybe.none e = cc
+          go (maybe.some k) e = cc
 
-        pub turn_new : st.there ≡ false → inserted_at held st.rank s.currency ≡ currency_table (currencies (row ∷ t.turn.above))
-        turn_new e =
-            (λ i. inserted_at (t.held_are i) (sym standing_is i).rank (sym held_row_lem i).currency)
-            ∙ money_new t.turn.above each_money row form.currency (there_is ∙ e)
+      -- Where its currency stands
+      abbrev standing : Result ℕ ℕ
+      standing = ranked_of (take seen.currencies.count seen.currencies.numbers) s.terms.currency
 
-        few_more : length (currencies (row ∷ t.turn.above)) ≤ 8
-        few_more = go st.there refl
-          where
-            go : (b : Bool) → st.there ≡ b → length (currencies (row ∷ t.turn.above)) ≤ 8
-            go true e = rw (money_known t.turn.above each_money row form.currency (there_is ∙ e)) t.few
-            go false e =
-                omega (arith, money_longer t.turn.above each_money row form.currency (there_is ∙ e), turn_room e, ap (λ (c : Currencies). c.count) t.held_are)
+      standing_is : standing ≡ ranked_of (money_of above) (own_money row)
+      standing_is =
+          (λ i. ranked_of (take (currencies_are i).count (currencies_are i).numbers) (sym r.held_is i).terms.currency)
+          ∙ ap (λ (ns : List ℕ). ranked_of ns (own_money row)) (table_front 8 0 currency_number (currencies above) (few_currencies cs kept))
 
-        pub turn_more : (more : Currencies) → more ≡ currency_table (currencies (row ∷ t.turn.above))
-            → Turn classes sheet from (set rows count (security_of s (class_for classes s))) (set codes count s.number) (set money count s.currency) more s.number (count + 1) next
-        turn_more more is =
-            record {
-              within = t.within;
-              turn =
-                  rooms.turn_more (room classes) t.turn r.on r.line same none turn_free (ap₂ security_of (sym held_row_lem) (class_is classed));
-              codes_are =
-                  ap (λ (s : SecurityRow). set codes count s.number) (sym held_row_lem)
-                  ∙ table_more 256 highest code_of t.turn.above t.codes_are t.turn.going.counted row (omega (arith, turn_free));
-              money_are =
-                  ap (λ (s : SecurityRow). set money count s.currency) (sym held_row_lem)
-                  ∙ table_more 200 0 own_money t.turn.above t.money_are t.turn.going.counted row turn_free;
-              held_are = is;
-              few = few_more;
-              last_is = ap (λ (s : SecurityRow). s.number) (sym held_row_lem);
-            }
+      pub turn_room : {rank : ℕ} → standing ≡ Err rank → seen.currencies.count < 8
+      turn_room e = told.0 (ap is_ok e)
+
+      -- The currencies with its own
+      pub turn_known : {rank : ℕ} → standing ≡ Ok rank → seen.currencies ≡ currency_table (currencies (row ∷ above))
+      turn_known e = currencies_are ∙ ap currency_table (sym (money_known above (currencied cs kept) row own (ap is_ok (sym standing_is ∙ e))))
+
+      pub turn_new : {rank : ℕ} → standing ≡ Err rank → inserted_at seen.currencies rank s.terms.currency ≡ currency_table (currencies (row ∷ above))
+      turn_new e =
+          (λ i. inserted_at (currencies_are i) (ap rank_of (sym e ∙ standing_is) i) (sym r.held_is i).terms.currency)
+          ∙ money_new above (currencied cs kept) row own (ap is_ok (sym standing_is ∙ e))
+
+      -- It is put into the table
+      pub turn_more : {more : Currencies} → more ≡ currency_table (currencies (row ∷ above))
+          → Judging judge sheet from first (set held count (security_of s class)) (count + 1) next
+          (record { currencies = more; last = Some s.terms.number; codes = set seen.codes count s.terms.number; money = set seen.money count s.terms.currency })
+      turn_more is =
+          let codes_are = ap (λ (told : Told). told.codes) t.seen_is in
+          let money_are = ap (λ (told : Told). told.money) t.seen_is in
+          let codes_more = ap (λ (s : SecurityRow). set seen.codes count s.terms.number) (sym r.held_is)
+          ∙ table_more 256 highest code_of above codes_are t.turn.going.counted row (omega (arith, turn_free)) in
+          let money_more = ap (λ (s : SecurityRow). set seen.money count s.terms.currency) (sym r.held_is)
+          ∙ table_more 200 0 own_money above money_are t.turn.going.counted row turn_free in
+          r.more clear (security_of s class) (ap₂ security_of (sym r.held_is) class_is) _
+          (λ i. record { currencies = is i; last = Some (sym r.held_is i).terms.number; codes = codes_more i; money = money_more i })
+
+    -- ---- the end
+
+    -- As many numbers of currencies as rows
+    pub turn_money : length (take count seen.money) ≡ count
+    turn_money =
+        let many = turn_counted (room cs) t.turn in
+        ap length (first_money above many (judging_most judge t) t.seen_is) ∙ length-map (reverse above) own_money ∙ sym many
+
+    -- The table with the places of the currencies
+    pub turn_table : record {
+      count = count;
+      rows = with_rank (take seen.currencies.count seen.currencies.numbers) (take count seen.money) held;
+      codes = seen.codes;
+      currencies = seen.currencies;
+    } ≡ security_table cs (reverse above)
+    turn_table =
+        ranked_table cs above kept (turn_counted (room cs) t.turn) (judging_most judge t) t.turn.table_is t.seen_is

@@ -1,6 +1,6 @@
 -- The places of the currencies of S rows.
 use Rattle.std.specs.Prelude.{ℕ, List}
-use Rattle.tables.specs.Ranks.{ranked_of}
+use Rattle.tables.specs.Ranks.{ranked_of, rank_of}
 use Rattle.tables.specs.declared.Security.{Security}
 use Rattle.tables.specs.Over.{over}
 
@@ -14,7 +14,7 @@ ranked_security all n s =
       previous = s.previous;
       next = s.next;
       class = s.class;
-      currency = (ranked_of all n).rank;
+      currency = rank_of (ranked_of all n);
     }
 
 -- The first securities of a table so, by the numbers of their currencies

@@ -2,155 +2,130 @@
 // place of its currency among the rising ones; the section is their table, or the refusal of one.
 #![tactic(auto)]
 
-ghost use Rattle.std.specs.Prelude.{◌≡◌, true, [], ◌≤◌, ◌<◌, take, drop};
-ghost use Rattle.paper.specs.Days.{new_years};
-ghost use Rattle.paper.specs.Refusals.{refused, security_kind};
+ghost use Rattle.std.specs.Prelude.{◌≡◌, true, ℕ, ◌+◌, ◌≤◌, ◌<◌, length, take, drop};
+ghost use Rattle.paper.specs.Refusals.{security_kind};
 ghost use Rattle.paper.specs.Text.{lines};
 ghost use Rattle.paper.specs.Sheet.{section};
-ghost use Rattle.places.specs.Places.{ended_length};
+ghost use Rattle.answers.specs.Options.{answer};
+ghost use Rattle.places.specs.Places.{ended_length, Stands};
 ghost use Rattle.tables.specs.Back.{paper_classes, ranged};
-ghost use Rattle.securities.specs.Read.{taken_of, security_read, security_number};
+ghost use Rattle.securities.specs.Read.{security_terms, coupon_dates, security_read};
 ghost use Rattle.securities.specs.Ranks.{with_rank};
-ghost use Rattle.securities.specs.Section.{security_section, broken_of, Small, security_of};
+ghost use Rattle.securities.specs.Section.{security_section, judged_of, Small, security_of};
 
+use answers::{Refusal, Refused};
+use classes::{Class, Duration, Kind};
 use days::Day;
-use places::Place;
-use sections::{Number, Section};
+use places::{Line, Place};
 use tables::{Classes, Code, Currencies, Money, Securities, Security};
+
+// What an S row says of its security, but for its coupon dates.
+#[derive(Clone, Copy)]
+struct Terms {
+    number: Code,
+    currency: Money,
+    kind: Kind,
+    duration: Duration, // 0 for a kind that has none
+    price: u64, // hundred-thousandths of a percent
+    coupon: u64, // hundred-thousandths of a percent a year
+    payments: u64, // a year
+}
 
 // An S row.
 #[derive(Clone, Copy)]
 struct SecurityRow {
-    pub code: Place, // where it stands
-    pub number: Code,
-    pub currency: Money,
-    pub kind: u64, // as of a class
-    pub duration: u64, // ten-thousandths of a year; 0 for a kind that has none
-    pub price: u64, // hundred-thousandths of a percent
-    pub coupon: u64, // hundred-thousandths of a percent a year
-    pub payments: u64, // a year
-    pub previous: Day, // coupon
-    pub next: Day, // coupon
+    code: Place, // where it stands
+    terms: Terms,
+    previous: Day, // coupon
+    next: Day, // coupon
 }
 
-// A row and where the next line starts, or the row's refusal.
-#[derive(Drop)]
-enum SecurityRead {
-    Row(SecurityRow, Place),
-    Refused(Number),
-}
-
-// The section: how it went, and its rows; none where it is refused.
-#[derive(Drop)]
-pub struct SecuritySection {
-    pub section: Section,
-    pub table: Securities,
-}
-
-// A row, or its refusal: by the fields that are no dates, then by the dates.
-fn taken(six: bool, seven: bool, row: SecurityRow, next: Place) -> SecurityRead
-    ensures { result ≡ taken_of six seven row next }
+// What stands in the fields of an S row that are no dates: code; currency; kind; duration; price; coupon; payments a year.
+fn security_terms(s: &[u8], line: &Line) -> Option<Terms>
+    requires { (k : ℕ) → k + 1 < 10 → Stands s.now line.now.ends k }
+    ensures { result ≡ answer (security_terms s.now line.now.ends) }
 {
-    if six {
-        if seven {
-            SecurityRead::Row(row, next)
-        } else {
-            SecurityRead::Refused(7)
-        }
-    } else {
-        SecurityRead::Refused(6)
+    let number = codes::code(line.field(s, 0))?; // of the code
+    let currency = codes::currency(line.field(s, 1))?; // by its number
+    let kind = fields::kind(line.field(s, 2))?; // by its number
+    let duration = fields::duration(line.field(s, 3), kind < 2)?; // ten-thousandths of a year
+    let price = fields::number(line.field(s, 4), 1, 20_000_000)?; // hundred-thousandths of a percent
+    let coupon = fields::number(line.field(s, 5), 0, 2_000_000)?; // hundred-thousandths of a percent a year
+    let payments = fields::number(line.field(s, 6), 1, 4)?; // a year
+    if payments == 3 {
+        return None;
     }
+    Some(Terms {
+        number,
+        currency,
+        kind,
+        duration,
+        price,
+        coupon,
+        payments,
+    })
 }
 
-// S: code; currency; kind; duration; price; coupon; payments a year; previous coupon date; next coupon date. From the place where
-// the line starts; `end` is the place behind the last LF of the sheet.
-fn security_row(s: &[u8], years: &[Day; 400], at: Place, end: Place) -> SecurityRead
-    requires { (at < end) × (end ≡ ended_length s.now) × (years.now ≡ new_years) }
+// The previous and the next coupon date of an S row, where they are days, the second 1 to 400 days after the first.
+fn coupon_dates(s: &[u8], line: &Line) -> Option<(Day, Day)>
+    requires { (k : ℕ) → k + 1 < 10 → Stands s.now line.now.ends k }
+    ensures { result ≡ answer (coupon_dates s.now line.now.ends) }
+{
+    let previous = fields::day(line.field(s, 7))?;
+    let next = fields::day(line.field(s, 8))?;
+    days::follows(previous, next, 400).then_some((previous, next))
+}
+
+// The S row of the line that starts at a place; `end` is the place behind the last LF of the sheet.
+fn security_row(s: &[u8], at: Place, end: Place) -> Result<(SecurityRow, Place), Refusal>
+    requires { (at < end) × (end ≡ ended_length s.now) }
     ensures { result ≡ security_read s.now at }
 {
     let line = places::line_at(s, at, end);
     if line.count != 10 {
-        return SecurityRead::Refused(5);
+        return Err(Refusal::Row);
     }
-    let ends = line.ends;
-    let code: Place = ends[0] + 1;
-    let number = codes::code_at(s, &ends, 0); // of the code
-    let currency = codes::currency_at(s, &ends, 1); // by its number
-    let kind = fields::kind_at(s, &ends, 2); // by its number
-    let duration = fields::duration_at(s, &ends, 3, kind < 2); // ten-thousandths of a year
-    let price = fields::number_at(s, &ends, 4, 1, 20_000_000); // hundred-thousandths of a percent
-    let coupon = fields::number_at(s, &ends, 5, 0, 2_000_000); // hundred-thousandths of a percent a year
-    let payments = fields::number_at(s, &ends, 6, 1, 4); // a year
-    let previous = fields::day_at(s, years, &ends, 7);
-    let next = fields::day_at(s, years, &ends, 8);
-    let six = fields::is_read(number)
-        & fields::is_read(currency)
-        & fields::is_read(kind)
-        & fields::is_read(duration)
-        & fields::is_read(price)
-        & fields::is_read(coupon)
-        & fields::is_read(payments)
-        & (payments != 3);
-    let seven = days::follows(previous, next, 400);
+    let terms = security_terms(s, &line).ok_or(Refusal::Field)?;
+    let (previous, next) = coupon_dates(s, &line).ok_or(Refusal::Date)?;
     let row = SecurityRow {
-        code: code,
-        number: number,
-        currency: currency,
-        kind: kind,
-        duration: duration,
-        price: price,
-        coupon: coupon,
-        payments: payments,
-        previous: previous,
-        next: next,
+        code: line.ends[0] + 1,
+        terms,
+        previous,
+        next,
     };
-    taken(six, seven, row, line.next)
+    Ok((row, line.next))
 }
 
-// The refusal of what was read, 0 for a row.
-fn security_number(read: SecurityRead) -> Number
-    ensures { result ≡ security_number read }
-{
-    match read {
-        SecurityRead::Row(_, _) => 0,
-        SecurityRead::Refused(number) => number,
-    }
-}
-
-// The rule that a row breaks, 0 where it breaks none: 8 there is room for it and for its currency, 9 its code rises, 11 it has a
-// class. `last` is the code above it, 0 where there is none.
-fn broken(
-    count: usize, // rows above
+// The class of a row, or the rule that it breaks: there is room for it and for its currency, its code rises, it has a class.
+fn judged(
+    above: &Securities,
     there: bool, // its currency stands above
-    currencies: usize, // above
-    last: Code,
+    last: Option<Code>, // above
     number: Code,
-    class: u64, // 0 where there is none
-) -> Number
-    ensures { result ≡ broken_of count there currencies last number class }
+    class: Option<Class>,
+) -> Result<Class, Refusal>
+    ensures { result ≡ judged_of above.now.count there above.now.currencies.count last number class }
 {
-    let room = (count < 200) & (there | (currencies < 8));
-    if !room {
-        return 8;
+    if 200 <= above.count || (!there && 8 <= above.currencies.count) {
+        return Err(Refusal::Count);
     }
-    if number <= last {
-        return 9;
+    if let Some(last) = last {
+        if number <= last {
+            return Err(Refusal::Order);
+        }
     }
-    if class == 0 { 11 } else { 0 }
+    class.ok_or(Refusal::Classless)
 }
 
 // What the table keeps of a row. The place of its currency is given when all rows are read.
-fn security_of(
-    row: SecurityRow,
-    class: u64, // 1..40
-) -> Security
+fn security_of(row: SecurityRow, class: Class) -> Security
     requires { Small row × (class ≤ 40) }
     ensures { result ≡ security_of row class }
 {
     Security {
-        price: row.price as u32,
-        coupon: row.coupon as u32,
-        payments: row.payments as u32,
+        price: row.terms.price as u32,
+        coupon: row.terms.coupon as u32,
+        payments: row.terms.payments as u32,
         previous: row.previous as u32,
         next: row.next as u32,
         class: class as u32,
@@ -158,117 +133,71 @@ fn security_of(
     }
 }
 
-// The rows with the places of their currencies among all that there are.
+// Gives rows the places of their currencies among all that there are.
 fn with_ranks(
-    rows: [Security; 200],
-    money: &[Money; 200], // of the rows
-    count: usize, // rows
-    currencies: Currencies,
-) -> [Security; 200]
-    requires { (count ≤ 200) × (currencies.count ≤ 8) }
-    ensures { result ≡ with_rank (take currencies.count currencies.numbers) (take count money.now) rows }
+    rows: &mut [Security; 200],
+    money: &[Money], // of the rows
+    currencies: &Currencies,
+)
+    requires { (length money.now ≤ 200) × (currencies.now.count ≤ 8) }
+    ensures { rows.new ≡ with_rank (take currencies.now.count currencies.now.numbers) money.now rows.old }
 {
-    let money: &[Money] = money; // as a slice: a proof is told its length
-    let numbers = currencies.numbers;
-    let mut ranked_rows = rows;
-    let mut i: usize = 0; // rows
-    while i < count {
-        let mut security = ranked_rows[i];
-        let standing = tables::ranked(&numbers, currencies.count, money[i]);
-        security.currency = standing.rank as u32;
-        ranked_rows[i] = security;
-        i += 1;
-    }
-    ranked_rows
-}
-
-// The section with a refusal, so many rows above it.
-fn refused(
-    number: Number,
-    count: usize, // rows above
-) -> SecuritySection
-    ensures { result ≡ security_section [] [] 0 (refused number count) }
-{
-    SecuritySection {
-        section: Section {
-            refusal: number,
-            count: count,
-            next: 0,
-        },
-        table: tables::no_securities(),
+    for (i, &own) in money.iter().enumerate() {
+        let (Ok(rank) | Err(rank)) = tables::ranked(&currencies.numbers, currencies.count, own);
+        rows[i].currency = rank as u32;
     }
 }
 
-// The S rows from a place on. `end` is the place behind the last LF of the sheet.
+// The S rows from a place on, with the place behind them. `end` is the place behind the last LF of the sheet.
 pub fn security_section(
     s: &[u8],
-    years: &[Day; 400],
     from: Place,
     end: Place,
-    classes: Classes,
-) -> SecuritySection
-    requires { (from ≤ end) × (end ≡ ended_length s.now) × (years.now ≡ new_years) × (classes.count ≤ 40) × (ranged classes ≡ true) }
-    ensures { result ≡ security_section (paper_classes classes) s.now from (section (security_kind (paper_classes classes)) (0, lines (drop from s.now))) }
+    classes: &Classes,
+    first: u32, // line of the first row
+) -> Result<(Securities, Place), Refused>
+    requires { (from ≤ end) × (end ≡ ended_length s.now) × (classes.now.count ≤ 40) × (ranged classes.now ≡ true) }
+    ensures { result ≡ security_section (paper_classes classes.now) s.now from (section (security_kind (paper_classes classes.now)) (first, lines (drop from s.now))) }
 {
-    let columns = classes::columns_of(classes);
-    let kinds = columns.kinds;
-    let borders = columns.borders;
-    let numbers = columns.numbers;
-    let none = tables::no_securities();
-    let mut rows = none.rows;
-    let mut codes = none.codes;
+    let mut table = tables::no_securities();
+    // Beside the rows, not in them: a row has its currency's place, which is not known before the last row.
     let mut money: [Money; 200] = [0; 200];
-    let mut currencies = none.currencies;
-    let mut last: Code = 0;
-    let mut count: usize = 0; // rows
+    let mut last: Option<Code> = None;
     let mut at: Place = from;
-    while sections::goes_on(s, at, end, 83) {
-        let read = security_row(s, years, at, end);
-        let SecurityRead::Row(row, next) = read else {
-            return refused(security_number(read), count);
+    while sections::goes_on(s, at, end, b'S') {
+        let line = first as u64 + table.count as u64; // of the sheet
+        let read = security_row(s, at, end);
+        let Ok((row, next)) = read else {
+            return Err(Refused {
+                refusal: read.unwrap_err(),
+                line,
+            });
         };
-        let above = currencies.numbers;
-        let standing = tables::ranked(&above, currencies.count, row.currency);
-        let class = classes::class_of(
-            &kinds,
-            &borders,
-            &numbers,
-            classes.count,
-            row.kind,
-            row.duration,
-        ); // 0 where there is none
-        let number = broken(
-            count,
-            standing.there,
-            currencies.count,
-            last,
-            row.number,
-            class,
-        ); // of a refusal
-        if number != 0 {
-            return refused(number, count);
+        let terms = row.terms;
+        let standing = tables::ranked(
+            &table.currencies.numbers,
+            table.currencies.count,
+            terms.currency,
+        );
+        let class = classes::class_of(&classes.rows[..classes.count], terms.kind, terms.duration);
+        let judged = judged(&table, standing.is_ok(), last, terms.number, class);
+        let Ok(class) = judged else {
+            return Err(Refused {
+                refusal: judged.unwrap_err(),
+                line,
+            });
+        };
+        if let Err(rank) = standing {
+            table.currencies = tables::inserted(table.currencies, rank, terms.currency);
         }
-        rows[count] = security_of(row, class);
-        codes[count] = row.number;
-        money[count] = row.currency;
-        if !standing.there {
-            currencies = tables::inserted(currencies, standing.rank, row.currency);
-        }
-        last = row.number;
-        count += 1;
+        table.rows[table.count] = security_of(row, class);
+        table.codes[table.count] = terms.number;
+        money[table.count] = terms.currency;
+        last = Some(terms.number);
+        table.count += 1;
         at = next;
     }
-    SecuritySection {
-        section: Section {
-            refusal: 0,
-            count: count,
-            next: at,
-        },
-        table: Securities {
-            count: count,
-            rows: with_ranks(rows, &money, count, currencies),
-            codes: codes,
-            currencies: currencies,
-        },
-    }
+    let currencies = table.currencies;
+    with_ranks(&mut table.rows, &money[..table.count], &currencies);
+    Ok((table, at))
 }

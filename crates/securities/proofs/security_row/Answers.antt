@@ -1,76 +1,85 @@
--- `securities::security_row` meets its contract: its nine fields are read, and then joined.
-use Prim.Native.Nat.{ℕ, ◌+◌, ◌<◌}
+-- `securities::security_row` meets its contract: its line is found, and what its fields and its dates give is handed on.
 use native.Mathlib.Omega.{arith}
 use mathlib.Core.List.{[]}
-use mathlib.Core.Path.{◌≡◌, sym, ◌∙◌}
-use borrow.Author.Rules.{rules}
-use Rattle.paper.specs.Refusals.{security_kind}
-use Rattle.paper.specs.Units.{Text}
-use Rattle.places.specs.Places.{Place, ended_length, line_at, Stands}
+use mathlib.Core.Path.{◌≡◌, refl, sym, ap, ◌∙◌}
+use Rattle.std.proofs.Common.{Ok, ◌+◌, get_or}
+use Rattle.std.proofs.lemmas.Result.{err_from_is_err_and}
+use Rattle.paper.specs.Refusals.{security_kind, security_fields, follows}
+use Rattle.paper.specs.Rows as paper
+use Rattle.paper.specs.Rows.{read_security}
 use Rattle.places.specs.declared.Line.{Line}
+use Rattle.places.specs.Places.{Place, line_at}
+use Rattle.paper.specs.Units.{Text}
+use Rattle.answers.specs.Options.{answer}
 use Rattle.sections.specs.Sections.{fields_at}
-use Rattle.sections.proofs.Reading.{Lined, line_asked, counted, lined, not_many}
-use Rattle.securities.specs.Read.{held_row}
-use Rattle.securities.specs.declared.SecurityRead.TheVariants as reads
-use Rattle.securities.proofs.Row.{security_there}
+use Rattle.sections.proofs.Reading.{Lined, line_asked, counted, lined, field_asked, not_many, by_fields, by_dates, dated_none, dated_refused, dated_taken}
+use Rattle.securities.specs.Read.{held_terms, held_row, security_read}
+use Rattle.securities.proofs.Row.{end, dates, whole, dated, terms_read, days_read}
+use Rattle.securities.specs.declared.SecurityRow.{SecurityRow}
 use Rattle.securities.proofs.security_row.Goals as goal
 
--- The line has its fields
-module _ (s : Text) (at end : Place) (before : at < end) (known : end ≡ ended_length s) (line : Line) (is : line ≡ line_at s at) (ten : line.count ≡ 10) where
-  its_line : Lined s at line 10
-  its_line = lined s at end before known line is 10 (omega arith) ten
-
-  standing : (k : ℕ) → k + 1 < 10 → Stands s line.ends k
-  standing k h = its_line.stands k h
+-- What the row is by its fields
+module _ (s : Text) (at : Place) {line : Line} (l : Lined s at line 10) where
+  answered : by_fields (held_row s at) (line_at s at).next (security_kind []) (fields_at s at) (dates s at) (whole s at) (end (read_security (fields_at s at)))
+      ≡ security_read s at
+  answered =
+      sym (by_dates (held_row s at) (line_at s at).next (security_kind []) (fields_at s at) (dates s at) (whole s at) l.count security_fields
+      (λ (r : paper.SecurityRow). follows 400 r.previous r.next) (λ r. refl) held_terms (dated s at))
 
 pub line_at-line-requires : goal.line_at-line-requires
 line_at-line-requires c = line_asked c.args.s.now c.args.at c.args.end c.requires.0 c.requires.1
 
 pub returns-then-line-ne10 : goal.returns-then-line-ne10
 returns-then-line-ne10 c =
-    let s = c.args.s.now in
-    let at = c.args.at in
-    let count = counted s at c.args.end c.requires.0 c.requires.1 c.line_at-line.result c.line_at-line.ensures in
-    sym (not_many reads.Refused (λ r. reads.Row (held_row s at r) (line_at s at).next) (security_kind []) (fields_at s at) (λ n. c.if-line-ne10.true (sym count ∙ n)))
+    let count = counted c.args.s.now c.args.at c.args.end c.requires.0 c.requires.1 c.line_at-line.result c.line_at-line.ensures in
+    sym (not_many (held_row c.args.s.now c.args.at) (line_at c.args.s.now c.args.at).next (security_kind []) (fields_at c.args.s.now c.args.at) (λ n. c.if-line-ne10.true (sym count ∙ n)))
 
--- Back from where all are read, field by field
-pub returns : goal.returns
-returns c =
-    c.taken.ensures
-    ∙ security_there _ _ _ (its_line c.args.s.now c.args.at c.args.end c.requires.0 c.requires.1 c.line_at-line.result c.line_at-line.ensures c.if-line-ne10.false)
-    c.code_at-number.ensures c.currency_at-currency.ensures c.kind_at-kind.ensures c.duration_at-duration.ensures
-    c.number_at-price.ensures c.number_at-coupon.ensures c.number_at-payments.ensures c.day_at-previous.ensures c.day_at-next.ensures
-    c.is_read.ensures c.is_read-2.ensures c.is_read-3.ensures c.is_read-4.ensures
-    c.is_read-5.ensures c.is_read-6.ensures c.is_read-7.ensures c.follows-seven.ensures
+pub security_terms-requires : goal.security_terms-requires
+security_terms-requires c =
+    field_asked c.args.s.now c.args.at c.args.end c.requires.0 c.requires.1 c.line_at-line.result c.line_at-line.ensures 10 (omega arith) c.if-line-ne10.false
 
-pub overflow_add-code : goal.overflow_add-code
-overflow_add-code c =
-    let stands = standing c.args.s.now c.args.at c.args.end c.requires.0 c.requires.1 c.line_at-line.result c.line_at-line.ensures c.if-line-ne10.false 0 (omega arith) in
+pub coupon_dates-requires : goal.coupon_dates-requires
+coupon_dates-requires c =
+    field_asked c.args.s.now c.args.at c.args.end c.requires.0 c.requires.1 c.line_at-line.result c.line_at-line.ensures 10 (omega arith) c.if-line-ne10.false
+
+pub overflow_add-row : goal.overflow_add-row
+overflow_add-row c =
+    let stands =
+    field_asked c.args.s.now c.args.at c.args.end c.requires.0 c.requires.1 c.line_at-line.result c.line_at-line.ensures 10 (omega arith) c.if-line-ne10.false 0 (omega arith)
+    in
     omega (arith, stands.ordered, stands.inside)
 
-pub code_at-number-requires : goal.code_at-number-requires
-code_at-number-requires c = let stands = standing c.args.s.now c.args.at c.args.end c.requires.0 c.requires.1 c.line_at-line.result c.line_at-line.ensures c.if-line-ne10.false in search (stands, rules)
+pub returns-in_err-terms : goal.returns-in_err-terms
+returns-in_err-terms c =
+    let s = c.args.s.now in
+    let at = c.args.at in
+    let line = lined s at c.args.end c.requires.0 c.requires.1 c.line_at-line.result c.line_at-line.ensures 10 (omega arith) c.if-line-ne10.false in
+    let (f, same, is) = err_from_is_err_and c.from_residual.result c.from_residual.ensures.1 in
+    rw (same, is)
+    (dated_none (held_row s at) (line_at s at).next (security_kind []) (fields_at s at) (dates s at) (whole s at) (end (read_security (fields_at s at)))
+    (c.security_terms.ensures ∙ ap answer (sym (terms_read s at _ line))) (sym c.ok_or.ensures.value ∙ c.in_err-terms.was)
+    ∙ answered s at line)
 
-pub currency_at-currency-requires : goal.currency_at-currency-requires
-currency_at-currency-requires c = let stands = standing c.args.s.now c.args.at c.args.end c.requires.0 c.requires.1 c.line_at-line.result c.line_at-line.ensures c.if-line-ne10.false in search (stands, rules)
+pub returns-in_err-previous : goal.returns-in_err-previous
+returns-in_err-previous c =
+    let s = c.args.s.now in
+    let at = c.args.at in
+    let line = lined s at c.args.end c.requires.0 c.requires.1 c.line_at-line.result c.line_at-line.ensures 10 (omega arith) c.if-line-ne10.false in
+    let (f, same, is) = err_from_is_err_and c.from_residual-in_err-previous.result c.from_residual-in_err-previous.ensures.1 in
+    rw (same, is)
+    (dated_refused (held_row s at) (line_at s at).next (security_kind []) (fields_at s at) (dates s at) (whole s at) (end (read_security (fields_at s at)))
+    (c.security_terms.ensures ∙ ap answer (sym (terms_read s at _ line))) (sym c.ok_or.ensures.value ∙ c.in_ok-terms.was)
+    (c.coupon_dates.ensures ∙ ap answer (days_read s at _ line c.in_ok-terms.terms)) (sym c.ok_or-2.ensures.value ∙ c.in_err-previous.was)
+    ∙ answered s at line)
 
-pub kind_at-kind-requires : goal.kind_at-kind-requires
-kind_at-kind-requires c = let stands = standing c.args.s.now c.args.at c.args.end c.requires.0 c.requires.1 c.line_at-line.result c.line_at-line.ensures c.if-line-ne10.false in search (stands, rules)
-
-pub duration_at-duration-requires : goal.duration_at-duration-requires
-duration_at-duration-requires c = let stands = standing c.args.s.now c.args.at c.args.end c.requires.0 c.requires.1 c.line_at-line.result c.line_at-line.ensures c.if-line-ne10.false in search (stands, rules)
-
-pub number_at-price-requires : goal.number_at-price-requires
-number_at-price-requires c = let stands = standing c.args.s.now c.args.at c.args.end c.requires.0 c.requires.1 c.line_at-line.result c.line_at-line.ensures c.if-line-ne10.false in search (stands, rules)
-
-pub number_at-coupon-requires : goal.number_at-coupon-requires
-number_at-coupon-requires c = let stands = standing c.args.s.now c.args.at c.args.end c.requires.0 c.requires.1 c.line_at-line.result c.line_at-line.ensures c.if-line-ne10.false in search (stands, rules)
-
-pub number_at-payments-requires : goal.number_at-payments-requires
-number_at-payments-requires c = let stands = standing c.args.s.now c.args.at c.args.end c.requires.0 c.requires.1 c.line_at-line.result c.line_at-line.ensures c.if-line-ne10.false in search (stands, rules)
-
-pub day_at-previous-requires-clause-stands : goal.day_at-previous-requires-clause-stands
-day_at-previous-requires-clause-stands c = let stands = standing c.args.s.now c.args.at c.args.end c.requires.0 c.requires.1 c.line_at-line.result c.line_at-line.ensures c.if-line-ne10.false in search (stands, rules)
-
-pub day_at-next-requires-clause-stands : goal.day_at-next-requires-clause-stands
-day_at-next-requires-clause-stands c = let stands = standing c.args.s.now c.args.at c.args.end c.requires.0 c.requires.1 c.line_at-line.result c.line_at-line.ensures c.if-line-ne10.false in search (stands, rules)
+pub returns : goal.returns
+returns c =
+    let s = c.args.s.now in
+    let at = c.args.at in
+    let line = lined s at c.args.end c.requires.0 c.requires.1 c.line_at-line.result c.line_at-line.ensures 10 (omega arith) c.if-line-ne10.false in
+    let row : Line → SecurityRow = λ l. record { code = get_or l.ends 0 0 + 1; terms = c.in_ok-terms.terms; previous = c.in_ok-previous.previous; next = c.in_ok-previous.next } in
+    ap (λ (l : Line). Ok (row l, l.next)) line.same
+    ∙ dated_taken (held_row s at) (line_at s at).next (security_kind []) (fields_at s at) (dates s at) (whole s at) (end (read_security (fields_at s at)))
+    (c.security_terms.ensures ∙ ap answer (sym (terms_read s at _ line))) (sym c.ok_or.ensures.value ∙ c.in_ok-terms.was)
+    (c.coupon_dates.ensures ∙ ap answer (days_read s at _ line c.in_ok-terms.terms)) (sym c.ok_or-2.ensures.value ∙ c.in_ok-previous.was)
+    ∙ answered s at line

@@ -1,13 +1,15 @@
 -- `securities::security_section` meets its contract. The loop's invariant: the tables have the rows above, and the section goes on
 -- from `at` with what they tell. The measure is the bytes left up to `end`.
 use Prim.Native.Nat.{◌-◌}
-use Rattle.securities.proofs.Turns.{Turn}
+use lib.ListN.{take}
+use Rattle.sections.proofs.Rooms.{Judging}
+use Rattle.securities.proofs.Turns.{judge}
 use Rattle.securities.proofs.security_section.Given as goal
 
-abbrev pub invariant-loop-classes : goal.invariant-loop-classes
-invariant-loop-classes l =
-    Turn l.classes l.s l.from l.rows l.codes l.money l.currencies l.last l.count l.at
+abbrev pub invariant-loop-last : goal.invariant-loop-last
+invariant-loop-last l =
+    Judging (judge (take l.classes.count l.classes.rows)) l.s l.from l.first l.table.rows l.table.count l.at
+    (record { currencies = l.table.currencies; last = l.last; codes = l.table.codes; money = l.money })
 
-abbrev pub decreases-loop-classes : goal.decreases-loop-classes
-decreases-loop-classes l =
-    l.end - l.at
+abbrev pub decreases-loop-last : goal.decreases-loop-last
+decreases-loop-last l = l.end - l.at

@@ -1,26 +1,44 @@
--- `securities::with_ranks` meets its contract. The loop's invariant: the first `i` rows have the places of their currencies. The
--- measure is the rows left.
+-- `securities::with_ranks` meets its contract. The loop's invariant: the rows before `i` have the places of their currencies.
+use Prim.Native.Nat.{ℕ}
 use native.Mathlib.Numerals.{add-one}
 use native.Mathlib.Omega.{arith}
-use mathlib.Core.Path.{ap}
+use mathlib.Core.List.{List}
+use mathlib.Core.Logic.{◌⊎◌, ⊎_elim}
+use mathlib.Core.Path.{◌≡◌, sym, ap, ◌∙◌}
 use lib.ListN.{get_or, take, length-take}
+use lib.Seq.{take_all}
+use Rattle.std.proofs.Common.{Result, Ok, Err}
 use Rattle.tables.specs.Held.{no_security}
-use Rattle.securities.specs.Ranks.{ranked_security}
-use Rattle.tables.specs.declared.Standing.{Standing}
+use Rattle.tables.specs.Ranks.{rank_of}
 use Rattle.tables.proofs.Over.{over_more}
 use Rattle.tables.proofs.Ranks.{rank_most}
+use Rattle.securities.specs.Ranks.{ranked_security, with_rank}
 use Rattle.securities.proofs.with_ranks.Goals as goal
+use Rattle.securities.proofs.with_ranks.Goals.{in-Ok, in-Ok-2}
 
-pub overflow_cast-security : goal.overflow_cast-security
-overflow_cast-security c =
+-- The rank, whether it stands there or would
+either : {r : Result ℕ ℕ} {rank : ℕ} → (r ≡ Ok rank) ⊎ (r ≡ Err rank) → rank ≡ rank_of r
+either = ⊎_elim (λ e. ap rank_of (sym e)) (λ e. ap rank_of (sym e))
+
+pub overflow_cast-rows : goal.overflow_cast-rows
+overflow_cast-rows c =
     let a = c.args in
     let own = get_or a.money.now c.loop-i.i 0 in
-    let all = take a.currencies.count a.currencies.numbers in
-    omega (arith, ap (λ (s : Standing). s.rank) c.ranked-standing.ensures, rank_most own all, length-take a.currencies.count a.currencies.numbers)
+    let all = take a.currencies.now.count a.currencies.now.numbers in
+    let rank : c.match-ranked.rank ≡ rank_of c.ranked.result =
+    elim c.match-ranked.branch [ in-Ok w ↦ w.rank-is ∙ either w.in-Ok.is | in-Ok-2 w ↦ w.rank-is ∙ either w.in-Ok.is ] in
+    omega (arith, rank, ap rank_of c.ranked.ensures, rank_most own all, length-take a.currencies.now.count a.currencies.now.numbers)
 
 pub loop-i-preserved : goal.loop-i-preserved
 loop-i-preserved c =
-    let inv = c.loop-i.invariant in
     let a = c.args in
-    let row = over_more (ranked_security (take a.currencies.count a.currencies.numbers)) a.money.now a.rows c.loop-i.i 0 no_security (omega arith) (omega arith) in
-    (omega arith, inv.1, inv.2, rw (inv.3, c.ranked-standing.ensures, add-one c.loop-i.i) row)
+    let rank : c.match-ranked.rank ≡ rank_of c.ranked.result =
+    elim c.match-ranked.branch [ in-Ok w ↦ w.rank-is ∙ either w.in-Ok.is | in-Ok-2 w ↦ w.rank-is ∙ either w.in-Ok.is ] in
+    let row = over_more (ranked_security (take a.currencies.now.count a.currencies.now.numbers)) a.money.now a.rows.now c.loop-i.i 0 no_security (omega arith) (omega arith) in
+    rw (rank, c.ranked.ensures, c.loop-i.invariant, add-one c.loop-i.i) row
+
+pub returns : goal.returns
+returns c =
+    let a = c.args in
+    c.loop-i.invariant
+    ∙ ap (λ (ms : List ℕ). with_rank (take a.currencies.now.count a.currencies.now.numbers) ms a.rows.now) (take_all c.loop-i.i a.money.now (omega arith))
