@@ -16,15 +16,17 @@ use Rattle.paper.proofs.Views.{header_written}
 use Rattle.places.specs.Places.{Place, ended_length}
 use Rattle.places.proofs.Places.{ended_append}
 use Rattle.sections.specs.Sections.{fields_at}
-use Rattle.sections.proofs.Loops.{Words, told_row, told_refused}
+use Rattle.answers.specs.Refusals.{refusal}
+use Rattle.answers.specs.declared.Refusal.{Refusal}
+use Rattle.std.proofs.Common.{Result, Ok, Err}
+use Rattle.sections.proofs.Loops.{read_row, read_refused}
 use Rattle.head.specs.Fields.{two_fields}
-use Rattle.head.specs.Read.{header_number, date_read}
-use Rattle.head.specs.declared.DateRead.TheVariants as reads
+use Rattle.head.specs.Read.{header_read, date_read}
 use Rattle.head.proofs.Row.{lines_there, within_there, formed, accepted_formed, refused_line}
 
 -- What a header comes to, by its two rules
-abbrev number_by : Bool → Bool → Number
-number_by mark version = elim mark [ false ↦ 3 | true ↦ elim version [ false ↦ 4 | true ↦ 0 ] ]
+abbrev header_by : Bool → Bool → Result (Unit {0}) Refusal
+header_by mark version = elim mark [ false ↦ Err (refusal 3) | true ↦ elim version [ false ↦ Err (refusal 4) | true ↦ Ok tt ] ]
 
 abbrev read_by : Text → Bool → Bool → Outcome Rest
 read_by sheet mark version =
@@ -34,25 +36,25 @@ read_by sheet mark version =
     ]
 
 -- A header that is right is gone on from
-pub header_right : (sheet : Text) → header_number sheet ≡ 0 → header sheet ≡ accepted (2, lines (drop 6 sheet))
+pub header_right : (sheet : Text) → header_read sheet ≡ Ok tt → header sheet ≡ accepted (2, lines (drop 6 sheet))
 header_right sheet e = go (same (ascii "BRM;") (take 4 sheet)) (same (ascii "1\n") (take 2 (drop 4 sheet))) e
   where
-    go : (mark version : Bool) → number_by mark version ≡ 0 → read_by sheet mark version ≡ accepted (2, lines (drop 6 sheet))
+    go : (mark version : Bool) → header_by mark version ≡ Ok tt → read_by sheet mark version ≡ accepted (2, lines (drop 6 sheet))
     go true true e = refl
-    go true false e = absurd (omega arith)
-    go false version e = absurd (omega arith)
+    go true false e = cc
+    go false version e = cc
 
 -- One that is not is refused
-pub header_wrong : (sheet : Text) → (header_number sheet ≡ 0 → ⊥) → header sheet ≡ refused (header_number sheet) 1
-header_wrong sheet other = go (same (ascii "BRM;") (take 4 sheet)) (same (ascii "1\n") (take 2 (drop 4 sheet))) other
+pub header_wrong : (sheet : Text) (f : Refusal) → header_read sheet ≡ Err f → (number : Number) × (header sheet ≡ refused number 1) × (refusal number ≡ f)
+header_wrong sheet f e = go (same (ascii "BRM;") (take 4 sheet)) (same (ascii "1\n") (take 2 (drop 4 sheet))) e
   where
-    go : (mark version : Bool) → (number_by mark version ≡ 0 → ⊥) → read_by sheet mark version ≡ refused (number_by mark version) 1
-    go true true other = absurd (other refl)
-    go true false other = refl
-    go false version other = refl
+    go : (mark version : Bool) → header_by mark version ≡ Err f → (number : Number) × (read_by sheet mark version ≡ refused number 1) × (refusal number ≡ f)
+    go true true e = cc
+    go true false e = (4, refl, cc)
+    go false version e = (3, refl, cc)
 
 -- A header that is right ends in an LF
-pub header_ended : (sheet : Text) → header_number sheet ≡ 0 → 6 ≤ ended_length sheet
+pub header_ended : (sheet : Text) → header_read sheet ≡ Ok tt → 6 ≤ ended_length sheet
 header_ended sheet e =
     let written = header_written sheet (2, lines (drop 6 sheet)) (header_right sheet e) in
     omega (arith, ap ended_length written.1, ended_append (ascii "BRM;1") (drop 6 sheet))
@@ -63,15 +65,6 @@ header_ended sheet e =
 abbrev behind_row : Text → Outcome Date → Outcome (Date × Rest)
 behind_row sheet o = o >>= λ d. accepted (d, (3, tail (lines (drop 6 sheet))))
 
--- How the code says a day and a refusal
-words : Words reads.Refused (λ (d : Day) (next : Place). reads.Row d next)
-words =
-    record {
-      apart = λ number d next e. let z : ◌≡◌ {A = ℕ} 0 1 = cc in absurd (omega arith);
-      one = λ d c m n e. (cc, cc);
-      number = λ m n e. cc;
-    }
-
 -- A D row that was read: the date of its day, and the next line
 pub record DateThere (sheet : Text) (today : Day) (next : Place) : Type 0 where
   pub date : Date
@@ -80,10 +73,10 @@ pub record DateThere (sheet : Text) (today : Day) (next : Place) : Type 0 where
   pub within : next ≤ ended_length sheet
   pub read : date_row (2, lines (drop 6 sheet)) ≡ accepted (date, (3, lines (drop next sheet)))
 
-pub date_read_lem : (sheet : Text) → 6 ≤ ended_length sheet → (today : Day) (next : Place) → date_read sheet ≡ reads.Row today next
+pub date_read_lem : (sheet : Text) → 6 ≤ ended_length sheet → (today : Day) (next : Place) → date_read sheet ≡ Ok (today, next)
     → DateThere sheet today next
 date_read_lem sheet h today next k =
-    let (d, is, its, behind) = told_row words day (two_fields sheet 6).behind (row date_kind [] 2 (fields_at sheet 6)) today next k in
+    let (d, is, its, behind) = read_row day (two_fields sheet 6) (row date_kind [] 2 (fields_at sheet 6)) today next k in
     let l = formed sheet h (accepted_formed (fields_at sheet 6) d is) in
     subst (λ (p : Place). DateThere sheet today p) behind
     (record {
@@ -95,11 +88,11 @@ date_read_lem sheet h today next k =
     })
 
 -- One that was refused
-pub date_number_read : (sheet : Text) (number : ℕ) → date_read sheet ≡ reads.Refused number
-    → date_row (2, lines (drop 6 sheet)) ≡ refused number 2
-date_number_read sheet number k =
-    let (line, is) = told_refused words day (two_fields sheet 6).behind (row date_kind [] 2 (fields_at sheet 6)) number k in
-    ap (behind_row sheet) (is ∙ ap (λ (n : ℕ). refused number n) (refused_line (fields_at sheet 6) number line is))
+pub date_refused : (sheet : Text) (f : Refusal) → date_read sheet ≡ Err f
+    → (number : Number) × (date_row (2, lines (drop 6 sheet)) ≡ refused number 2) × (refusal number ≡ f)
+date_refused sheet f k =
+    let (number, line, is, same) = read_refused day (two_fields sheet 6) (row date_kind [] 2 (fields_at sheet 6)) f k in
+    (number, ap (behind_row sheet) (is ∙ ap (λ (n : ℕ). refused number n) (refused_line (fields_at sheet 6) number line is)), same)
 
 -- What reading comes to, by the header and the D row
 module _ (sheet : Text) where

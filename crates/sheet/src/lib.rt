@@ -22,11 +22,21 @@ fn tables_from(s: &[u8], from: Place, end: Place, today: Day) -> Result<Tables, 
 {
     let (classes, behind_classes) = classes::class_section(s, from, end, 3)?;
     let first = 3 + classes.count as u32; // line of the O rows
-    let (priorities, behind_priorities) =
-        priorities::priority_section(s, behind_classes, end, &classes, first)?;
+    let (priorities, behind_priorities) = priorities::priority_section(
+        s,
+        behind_classes,
+        end,
+        &classes,
+        first,
+    )?;
     let second = first + priorities.count as u32; // line of the S rows
-    let (securities, behind_securities) =
-        securities::security_section(s, behind_priorities, end, &classes, second)?;
+    let (securities, behind_securities) = securities::security_section(
+        s,
+        behind_priorities,
+        end,
+        &classes,
+        second,
+    )?;
     let third = second + securities.count as u32; // line of the T rows
     let working = days::working_after(today);
     let (trades, behind) = trades::trade_section(

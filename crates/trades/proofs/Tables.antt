@@ -5,7 +5,7 @@ use native.Mathlib.Omega.{arith}
 use mathlib.Core.Bool.{Bool, true, false}
 use mathlib.Core.List.{List, [], ◌∷◌, ◌++◌}
 use mathlib.Core.Option.{none, some}
-use mathlib.Core.Path.{◌≡◌, refl, sym, ap, ◌∙◌}
+use mathlib.Core.Path.{◌≡◌, refl, sym, ap, ◌∙◌, subst}
 use borrow.Author.Tests.{lt-ltb, le-ltb}
 use lib.Dec.{T, eqb}
 use lib.ListN.{length, get_or, take, replicate, length-map, get_or-replicate}
@@ -24,7 +24,7 @@ use Rattle.paper.proofs.Order.{same_true}
 use Rattle.tables.specs.Numbers.{code_number, highest, number_place}
 use Rattle.tables.specs.Held.{no_security, held_security, codes_of, security_table}
 use Rattle.tables.proofs.Numbers.{code_number_low, code_number_same}
-use Rattle.tables.proofs.Padded.{table_front}
+use Rattle.tables.proofs.Padded as padded
 use Rattle.tables.proofs.Places.{Rises, no_more, one_more, codes_rise}
 use Rattle.tables.specs.Ranks.{Searchable}
 use Rattle.trades.specs.Found.{period_in}
@@ -77,12 +77,18 @@ module _ (cs : List ClassRow) (ss : List SecurityRow) (down : T (hold_down (secu
   coded : Each (λ s. is_code s.code ≡ true) ss
   coded = each_map (λ s f. f.code) (each_holds (security_kind cs) SecurityFacts (security_facts cs) [] ss down)
 
+  as_many : length (security_table cs ss).rows.items ≡ length ss
+  as_many = length-map ss (held_security cs (currencies ss))
+
+  front : take (length ss) (security_table cs ss).codes ≡ codes_of ss
+  front = padded.codes_front ss (omega (arith, few))
+
   -- The codes stand in front
-  pub codes_front : take (length ss) (security_table cs ss).codes ≡ codes_of ss
-  codes_front = table_front 256 highest (λ s. code_number s.code) ss (omega (arith, few))
+  pub codes_front : take (length (security_table cs ss).rows.items) (security_table cs ss).codes ≡ codes_of ss
+  codes_front = ap (λ (n : ℕ). take n (security_table cs ss).codes) as_many ∙ front
 
   code_at : (i : ℕ) → i < length ss → get_or (security_table cs ss).codes i 0 ≡ get_or (codes_of ss) i 0
-  code_at i h = sym (get_or-take (length ss) (security_table cs ss).codes i 0 h) ∙ ap (λ (l : List ℕ). get_or l i 0) codes_front
+  code_at i h = sym (get_or-take (length ss) (security_table cs ss).codes i 0 h) ∙ ap (λ (l : List ℕ). get_or l i 0) front
 
   -- The highest number stands behind them
   code_behind : (i : ℕ) → length ss ≤ i → i < 256 → get_or (security_table cs ss).codes i 0 ≡ highest
@@ -94,8 +100,8 @@ module _ (cs : List ClassRow) (ss : List SecurityRow) (down : T (hold_down (secu
       ∙ get_or-append-add (codes_of ss) (replicate 256 highest) (i - length ss) 0
       ∙ get_or-replicate 256 (i - length ss) highest 0 (omega arith)
 
-  pub codes_searchable : Searchable (security_table cs ss).codes (length ss)
-  codes_searchable =
+  searchable : Searchable (security_table cs ss).codes (length ss)
+  searchable =
       let size = length-map ss (λ s. code_number s.code) in
       let numbers : Each (λ n. n < highest) (codes_of ss) = each_made _ ss (each_map (λ s is. code_number_low s.code is) coded) in
       record {
@@ -104,21 +110,23 @@ module _ (cs : List ClassRow) (ss : List SecurityRow) (down : T (hold_down (secu
         rest = code_behind;
       }
 
+  -- What is asked of a table to find codes in it
+  pub codes_searchable : (length (security_table cs ss).rows.items ≤ 200) × Searchable (security_table cs ss).codes (length (security_table cs ss).rows.items)
+  codes_searchable = (omega (arith, few, as_many), subst (Searchable (security_table cs ss).codes) (sym as_many) searchable)
+
   -- A row by its place
   row_at : (i : ℕ) (row : SecurityRow) → i < length ss → get_or ss i row ≡ row
-      → get_or (security_table cs ss).rows i no_security ≡ held_security cs (currencies ss) row
+      → get_or (security_table cs ss).rows.items i no_security ≡ held_security cs (currencies ss) row
   row_at i row h is =
-      sym (get_or-take (length ss) (security_table cs ss).rows i no_security h)
-      ∙ ap (λ l. get_or l i no_security) (table_front 200 no_security (held_security cs (currencies ss)) ss few)
-      ∙ made_at (held_security cs (currencies ss)) ss i no_security row h
+      made_at (held_security cs (currencies ss)) ss i no_security row h
       ∙ ap (held_security cs (currencies ss)) is
 
   period_at : (c : Code) → period_in (security_table cs ss) c ≡ period_of ss c
   period_at c = go (is_code c) refl
     where
       found : is_code c ≡ true → Sought ss c (number_place (codes_of ss) (code_number c)) → period_in (security_table cs ss) c ≡ period_of ss c
-      found is (sought row h f g) = rw (codes_front, is, lt-ltb (number_place (codes_of ss) (code_number c)) (length ss) h, row_at (number_place (codes_of ss) (code_number c)) row h g, f)
-      found is (missed h f) = rw (codes_front, is, le-ltb (number_place (codes_of ss) (code_number c)) (length ss) (omega arith), f)
+      found is (sought row h f g) = rw (as_many, front, is, lt-ltb (number_place (codes_of ss) (code_number c)) (length ss) h, row_at (number_place (codes_of ss) (code_number c)) row h g, f)
+      found is (missed h f) = rw (as_many, front, is, le-ltb (number_place (codes_of ss) (code_number c)) (length ss) (omega arith), f)
 
       go : (b : Bool) → is_code c ≡ b → period_in (security_table cs ss) c ≡ period_of ss c
       go true e = found e (seek c e ss coded)

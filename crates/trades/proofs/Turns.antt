@@ -32,11 +32,11 @@ use Rattle.answers.specs.declared.Refusal.{Refusal}
 use Rattle.answers.specs.declared.Refusal.TheVariants.{Count, Missing}
 use Rattle.answers.specs.declared.Refusal.TheVariants as refusals
 use Rattle.tables.specs.Numbers.{trade_number, number_place}
-use Rattle.tables.specs.Held.{no_security, no_trade, held_trade, trade_table}
+use Rattle.arrayvec.specs.ArrayVec.{ArrayVec}
+use Rattle.tables.specs.Held.{no_security, held_trade, trade_table}
 use Rattle.tables.specs.Ranks.{Searchable}
 use Rattle.tables.specs.declared.Securities.{Securities}
 use Rattle.tables.specs.declared.Trade.{Trade}
-use Rattle.tables.specs.declared.Trades.{Trades}
 use Rattle.tables.proofs.Numbers.{trade_most, side_most}
 use Rattle.sections.specs.Sections.{broken}
 use Rattle.sections.proofs.Loops.{Kept, more_kept}
@@ -76,10 +76,10 @@ module _ (today : Day) (securities : Securities) where
   kind = trade_kind today (period_in securities)
 
   abbrev codes : List ℕ
-  codes = take securities.count securities.codes
+  codes = take (length securities.rows.items) securities.codes
 
   -- The room
-  abbrev pub room : Room paper.TradeRow TradeRow Trade Trades
+  abbrev pub room : Room paper.TradeRow TradeRow Trade (ArrayVec Trade)
   room =
       record {
         kind = trade_kind today (period_in securities);
@@ -87,9 +87,8 @@ module _ (today : Day) (securities : Securities) where
         its_letter = refl;
         held = held_row;
         most = 500;
-        free = no_trade;
-        kept = held_trade today (take securities.count securities.codes);
-        table = trade_table today (take securities.count securities.codes);
+        kept = held_trade today (take (length securities.rows.items) securities.codes);
+        table = trade_table today (take (length securities.rows.items) securities.codes);
       }
 
   -- There was room for the last of rows that keep the rules
@@ -102,7 +101,7 @@ module _ (today : Day) (securities : Securities) where
       record { nominal = search tests; first = day_low t.first; trade = trade_most t.trade; side = side_most t.side }
 
   -- A row is judged and kept as the paper's row is
-  module _ (size : length codes ≡ securities.count) (sheet : Text) (at : Place) (t : paper.TradeRow) where
+  module _ (size : length codes ≡ length securities.rows.items) (sheet : Text) (at : Place) (t : paper.TradeRow) where
     abbrev held : TradeRow
     held = held_row sheet at t
 
@@ -116,7 +115,7 @@ module _ (today : Day) (securities : Securities) where
           | false ↦ Err Count
           | true ↦ elim (then_some there place) [
             | None ↦ Err Missing
-            | Some place ↦ elim (period_holds margined accrual (get_or securities.rows place no_security)) [
+            | Some place ↦ elim (period_holds margined accrual (get_or securities.rows.items place no_security)) [
               | false ↦ Err refusals.Period
               | true ↦ Ok (trade_of held place margined accrual)
             ]
@@ -124,22 +123,22 @@ module _ (today : Day) (securities : Securities) where
         ]
 
     told : (count : ℕ) → judged_of today (working_after today) securities count held
-        ≡ by_tests (ltb count 500) (ltb place securities.count) (margined today t) (accrual_day today t)
+        ≡ by_tests (ltb count 500) (ltb place (length securities.rows.items)) (margined today t) (accrual_day today t)
     told count =
         let m = margined_on (eqb (trade_number t.trade) 1) today (day t.first) (last_day t) in
         let a = cond (eqb (trade_number t.trade) 1) (day t.first) (working_after today) in
         ap (λ (n : ℕ). by_tests (ltb count 500) (ltb place n) m a) size
-        ∙ ap₂ (by_tests (ltb count 500) (ltb place securities.count))
+        ∙ ap₂ (by_tests (ltb count 500) (ltb place (length securities.rows.items)))
         (margined_alike t.trade today (day t.first) (last_day t)) (accrual_alike t.trade (day t.first) (working_after today))
 
     abbrev period : Bool → maybe.Option Period
-    period there = cond there (some (period_of (get_or securities.rows place no_security))) none
+    period there = cond there (some (period_of (get_or securities.rows.items place no_security))) none
 
     pub alike : (above : List paper.TradeRow) → T (hold (kind.own t))
         → refusal_of (judged_of today (working_after today) securities (length above) held) ≡ answer (maybe.map refusal (broken (kind.others above t)))
     alike above own =
         let coded : is_code t.code ≡ true = search tests in
-        let there = ltb place securities.count in
+        let there = ltb place (length securities.rows.items) in
         ap refusal_of (told (length above))
         ∙ go (ltb (length above) 500) there
         ∙ ap (λ (is : Bool). let p = period (is && there) in answer (maybe.map refusal (broken ((8, ltb (length above) 500) ∷ (10, given p) ∷ (12, in_period today t p) ∷ [])))) (sym coded)
@@ -156,7 +155,7 @@ module _ (today : Day) (securities : Securities) where
             test true = refl
 
     pub kept_alike : (count : ℕ) {trade : Trade} → judged_of today (working_after today) securities count held ≡ Ok trade → trade ≡ held_trade today codes t
-    kept_alike count {trade} e = go (ltb count 500) (ltb place securities.count) (sym (told count) ∙ e)
+    kept_alike count {trade} e = go (ltb count 500) (ltb place (length securities.rows.items)) (sym (told count) ∙ e)
       where
         go : (room there : Bool) → by_tests room there (margined today t) (accrual_day today t) ≡ Ok trade → trade ≡ held_trade today codes t
         go false there e = cc
@@ -169,7 +168,7 @@ module _ (today : Day) (securities : Securities) where
             test false e = cc
             test true e = let same : trade_of held place (margined today t) (accrual_day today t) ≡ trade = cc in sym same
 
-  abbrev pub judge : length codes ≡ securities.count → Judge room (Unit {0})
+  abbrev pub judge : length codes ≡ length securities.rows.items → Judge room (Unit {0})
   judge size =
       record {
         tell = λ above. tt;

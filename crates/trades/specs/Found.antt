@@ -1,5 +1,5 @@
 -- A T row judged by the securities' table, and what the table of trades keeps of it.
-use Rattle.std.specs.Prelude.{ℕ, ◌≤◌, ◌<◌, Bool, true, false, cond, not, ◌&&◌, ◌||◌, eqb, leb, ltb, get_or, take, Some, None, Result, Ok, Err}
+use Rattle.std.specs.Prelude.{ℕ, ◌≤◌, ◌<◌, Bool, true, false, cond, not, ◌&&◌, ◌||◌, eqb, leb, ltb, get_or, length, take, Some, None, Result, Ok, Err}
 use Rattle.std.proofs.Math.Option.{Option, none, some}
 use Rattle.paper.specs.Units.{Day, Code}
 use Rattle.paper.specs.Text.{is_code}
@@ -22,8 +22,9 @@ period_of s = record { previous = s.previous; next = s.next }
 -- The coupon period that a code has in a table, where it is one of the table's
 abbrev pub period_in : Securities → Code → Option Period
 period_in t c =
-    let place = number_place (take t.count t.codes) (code_number c) in
-    cond (is_code c && ltb place t.count) (some (period_of (get_or t.rows place no_security))) none
+    let count = length t.rows.items in
+    let place = number_place (take count t.codes) (code_number c) in
+    cond (is_code c && ltb place count) (some (period_of (get_or t.rows.items place no_security))) none
 
 -- Whether a trade is margined on a calculation day, by its first and last day (01, "Selection")
 abbrev pub margined_on : Bool → Day → Day → Day → Bool
@@ -63,9 +64,9 @@ judged_of today working securities count t =
     let accrual = cond (eqb t.terms.trade 1) t.first working in
     elim (ltb count 500) [
       | false ↦ Err Count
-      | true ↦ elim (found_place (take securities.count securities.codes) t.terms.number) [
+      | true ↦ elim (found_place (take (length securities.rows.items) securities.codes) t.terms.number) [
         | None ↦ Err Missing
-        | Some place ↦ elim (period_holds margined accrual (get_or securities.rows place no_security)) [
+        | Some place ↦ elim (period_holds margined accrual (get_or securities.rows.items place no_security)) [
           | false ↦ Err refusals.Period
           | true ↦ Ok (trade_of t place margined accrual)
         ]

@@ -2,7 +2,7 @@
 // margined, and its accrual day; the section is their table, or the refusal of one.
 #![tactic(auto)]
 
-ghost use Rattle.std.specs.Prelude.{◌≡◌, ℕ, ◌+◌, ◌≤◌, ◌<◌, take, drop};
+ghost use Rattle.std.specs.Prelude.{◌≡◌, ℕ, ◌+◌, ◌≤◌, ◌<◌, length, take, drop};
 ghost use Rattle.paper.specs.Days.{working_after};
 ghost use Rattle.paper.specs.Refusals.{trade_kind};
 ghost use Rattle.paper.specs.Text.{date_in, lines};
@@ -155,13 +155,13 @@ fn judged(
     securities: &Securities,
 ) -> Result<Trade, Refusal>
     requires row { Small row × (working < 150_000) }
-    requires codes { (securities.now.count ≤ 200) × Searchable securities.now.codes securities.now.count }
+    requires codes { (length securities.now.rows.items ≤ 200) × Searchable securities.now.codes (length securities.now.rows.items) }
     ensures { result ≡ judged_of today working securities.now count row }
 {
     if 500 <= count {
         return Err(Refusal::Count);
     }
-    let found = tables::find(&securities.codes, securities.count, row.terms.number);
+    let found = tables::find(&securities.codes, securities.rows.len(), row.terms.number);
     let place = found.ok_or(Refusal::Missing)?; // of its security
     let cash = row.terms.trade == 1;
     let margined = is_margined(cash, today, row.first, row.last);
@@ -185,13 +185,13 @@ pub fn trade_section(
     first: u32, // line of the first row
 ) -> Result<(Trades, Place), Refused>
     requires sheet_and_days { (from ≤ end) × (end ≡ ended_length s.now) × (working ≡ working_after today) × (working < 150_000) }
-    requires codes { (securities.now.count ≤ 200) × Searchable securities.now.codes securities.now.count }
-    ensures { result ≡ trade_section today (take securities.now.count securities.now.codes) s.now from (section (trade_kind today (period_in securities.now)) (first, lines (drop from s.now))) }
+    requires codes { (length securities.now.rows.items ≤ 200) × Searchable securities.now.codes (length securities.now.rows.items) }
+    ensures { result ≡ trade_section today (take (length securities.now.rows.items) securities.now.codes) s.now from (section (trade_kind today (period_in securities.now)) (first, lines (drop from s.now))) }
 {
-    let mut table = tables::no_trades();
+    let mut table = Trades::new();
     let mut at: Place = from;
     while sections::goes_on(s, at, end, b'T') {
-        let line = u64::from(first) + table.count as u64; // of the sheet
+        let line = first as u64 + table.len() as u64; // of the sheet
         let read = trade_row(s, at, end);
         let Ok((row, next)) = read else {
             return Err(Refused {
@@ -199,15 +199,14 @@ pub fn trade_section(
                 line,
             });
         };
-        let judged = judged(row, table.count, today, working, securities);
+        let judged = judged(row, table.len(), today, working, securities);
         let Ok(trade) = judged else {
             return Err(Refused {
                 refusal: judged.unwrap_err(),
                 line,
             });
         };
-        table.rows[table.count] = trade;
-        table.count += 1;
+        table.push(trade);
         at = next;
     }
     Ok((table, at))

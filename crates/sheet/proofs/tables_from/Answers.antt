@@ -9,11 +9,12 @@ use mathlib.Core.Path.{◌≡◌, refl, sym, ap, ap₂, ◌∙◌}
 use lib.Dec.{T}
 use lib.ListN.{length, take, drop}
 use Rattle.std.proofs.Common.{Result, Ok, Err}
+use Rattle.std.proofs.lemmas.Result.{err_from_is_err_and}
 use Rattle.paper.specs.Units.{Text, Date, Day, Code, Line}
 use Rattle.paper.specs.Days.{working_after, day}
 use Rattle.paper.specs.Text.{lines}
 use Rattle.paper.specs.Rows as paper
-use Rattle.paper.specs.Refusals.{Outcome, refused, Period, period_of, RowKind, class_kind, priority_kind, security_kind, trade_kind}
+use Rattle.paper.specs.Refusals.{Outcome, refused, accepted, ◌>>=◌, Period, period_of, RowKind, class_kind, priority_kind, security_kind, trade_kind}
 use Rattle.paper.specs.Sheet.{Rest, section, read_tables}
 use Rattle.paper.specs.Tables.{hold_down}
 use Rattle.paper.proofs.Days.{working_within}
@@ -28,9 +29,8 @@ use Rattle.tables.specs.declared.Classes.{Classes}
 use Rattle.tables.specs.declared.Priorities.{Priorities}
 use Rattle.tables.specs.declared.Securities.{Securities}
 use Rattle.tables.specs.declared.Trades.{Trades}
-use Rattle.tables.specs.declared.Tables.{Tables}
 use Rattle.tables.proofs.Backs.{table_classes, table_ranged}
-use Rattle.sections.specs.Sections.{section_as, rows_in}
+use Rattle.sections.specs.Sections.{rows_in}
 use Rattle.sections.proofs.Loops.{whole}
 use Rattle.sections.proofs.Stages.{Staged, Exit, Standing, stopped_there, opened}
 use Rattle.classes.specs.Section.{class_section}
@@ -193,6 +193,14 @@ module _ (s : Text) (from end : Place) (today : Day)
                     (codes_front cs ss b_kept)
                     (periods_found cs ss b_kept)
 
+                t_few : {trades : Trades} {behind : Place} → t ≡ Ok (trades, behind) → trades.count ≤ 500
+                t_few {trades} {behind} e =
+                    let kind = trade_kind today (period_of ss) in
+                    let there : Standing kind (λ x. accepted x) s next_b third (section kind (third, lines (drop next_b s)) >>= λ x. accepted x) =
+                    record { within = (at_trades 0).within; goes = refl } in
+                    let o = opened there (trade_staged today (period_of ss)) (trade_table today (codes_of ss)) t t_periods trades behind e in
+                    omega (arith, ap (λ (t : Trades). t.count) o.is, trades_at_most today (period_of ss) _ o.down)
+
                 module _ (d : Date) (on : today ≡ day d) where
                   abbrev ts : List paper.TradeRow
                   ts = rows_in (whole (trade_kind (day d) (period_of ss)) s next_b third)
@@ -224,3 +232,126 @@ module _ (s : Text) (from end : Place) (today : Day)
                         let p = opened (at_trades d) (trade_staged (day d) (period_of ss)) its_table t t_paper trades behind t_goes in
                         (λ i. Ok (record { classes = known i; priorities = listed i; securities = held i; trades = booked i }))
                         ∙ ap held_sheet (sym (p.goes ∙ ended_there _ _ behind _ p.within e))
+
+pub overflow_cast-first : goal.overflow_cast-first
+overflow_cast-first c =
+    omega (arith, c_few c.args.s.now c.args.from c.args.end c.args.today c.requires c.class_section.ensures c.in_ok-classes.was)
+
+pub overflow_add-first : goal.overflow_add-first
+overflow_add-first c =
+    omega (arith, c_few c.args.s.now c.args.from c.args.end c.args.today c.requires c.class_section.ensures c.in_ok-classes.was)
+
+pub priority_section-requires : goal.priority_section-requires
+priority_section-requires c =
+    priorities_asked c.args.s.now c.args.from c.args.end c.args.today c.requires c.class_section.ensures c.in_ok-classes.was
+
+pub returns-in_err-priorities : goal.returns-in_err-priorities
+returns-in_err-priorities c d on =
+    let (f, same, is) = err_from_is_err_and c.from_residual-in_err-priorities.result c.from_residual-in_err-priorities.ensures.1 in
+    rw (same, is)
+    (o_stops c.args.s.now c.args.from c.args.end c.args.today c.requires c.class_section.ensures c.in_ok-classes.was
+    c.priority_section.ensures c.in_err-priorities.was d)
+
+pub overflow_cast-second : goal.overflow_cast-second
+overflow_cast-second c =
+    omega (
+      arith,
+      o_few c.args.s.now c.args.from c.args.end c.args.today c.requires c.class_section.ensures c.in_ok-classes.was
+          c.priority_section.ensures c.in_ok-priorities.was,
+    )
+
+pub overflow_add-second : goal.overflow_add-second
+overflow_add-second c =
+    omega (
+      arith,
+      c_few c.args.s.now c.args.from c.args.end c.args.today c.requires c.class_section.ensures c.in_ok-classes.was,
+      o_few c.args.s.now c.args.from c.args.end c.args.today c.requires c.class_section.ensures c.in_ok-classes.was
+          c.priority_section.ensures c.in_ok-priorities.was,
+    )
+
+pub security_section-requires : goal.security_section-requires
+security_section-requires c =
+    securities_asked c.args.s.now c.args.from c.args.end c.args.today c.requires c.class_section.ensures c.in_ok-classes.was
+    c.priority_section.ensures c.in_ok-priorities.was
+
+pub returns-in_err-securities : goal.returns-in_err-securities
+returns-in_err-securities c d on =
+    let (f, same, is) = err_from_is_err_and c.from_residual-in_err-securities.result c.from_residual-in_err-securities.ensures.1 in
+    rw (same, is)
+    (b_stops c.args.s.now c.args.from c.args.end c.args.today c.requires c.class_section.ensures c.in_ok-classes.was
+    c.priority_section.ensures c.in_ok-priorities.was c.security_section.ensures c.in_err-securities.was d)
+
+pub overflow_cast-third : goal.overflow_cast-third
+overflow_cast-third c =
+    omega (
+      arith,
+      b_few c.args.s.now c.args.from c.args.end c.args.today c.requires c.class_section.ensures c.in_ok-classes.was
+          c.priority_section.ensures c.in_ok-priorities.was c.security_section.ensures c.in_ok-securities.was,
+    )
+
+pub overflow_add-third : goal.overflow_add-third
+overflow_add-third c =
+    omega (
+      arith,
+      c_few c.args.s.now c.args.from c.args.end c.args.today c.requires c.class_section.ensures c.in_ok-classes.was,
+      o_few c.args.s.now c.args.from c.args.end c.args.today c.requires c.class_section.ensures c.in_ok-classes.was
+          c.priority_section.ensures c.in_ok-priorities.was,
+      b_few c.args.s.now c.args.from c.args.end c.args.today c.requires c.class_section.ensures c.in_ok-classes.was
+          c.priority_section.ensures c.in_ok-priorities.was c.security_section.ensures c.in_ok-securities.was,
+    )
+
+pub trade_section-requires-clause-sheet_and_days : goal.trade_section-requires-clause-sheet_and_days
+trade_section-requires-clause-sheet_and_days c =
+    trades_asked c.args.s.now c.args.from c.args.end c.args.today c.requires c.class_section.ensures c.in_ok-classes.was
+    c.priority_section.ensures c.in_ok-priorities.was c.security_section.ensures c.in_ok-securities.was
+    c.working_after-working.result c.working_after-working.ensures
+
+pub trade_section-requires-clause-codes : goal.trade_section-requires-clause-codes
+trade_section-requires-clause-codes c =
+    codes_asked c.args.s.now c.args.from c.args.end c.args.today c.requires c.class_section.ensures c.in_ok-classes.was
+    c.priority_section.ensures c.in_ok-priorities.was c.security_section.ensures c.in_ok-securities.was
+
+pub returns-in_err-trades : goal.returns-in_err-trades
+returns-in_err-trades c d on =
+    let (f, same, is) = err_from_is_err_and c.from_residual-in_err-trades.result c.from_residual-in_err-trades.ensures.1 in
+    rw (same, is)
+    (t_stops c.args.s.now c.args.from c.args.end c.args.today c.requires c.class_section.ensures c.in_ok-classes.was
+    c.priority_section.ensures c.in_ok-priorities.was c.security_section.ensures c.in_ok-securities.was
+    c.trade_section.ensures d on c.in_err-trades.was)
+
+pub overflow_cast-result : goal.overflow_cast-result
+overflow_cast-result c =
+    omega (
+      arith,
+      c_few c.args.s.now c.args.from c.args.end c.args.today c.requires c.class_section.ensures c.in_ok-classes.was,
+      o_few c.args.s.now c.args.from c.args.end c.args.today c.requires c.class_section.ensures c.in_ok-classes.was
+          c.priority_section.ensures c.in_ok-priorities.was,
+      b_few c.args.s.now c.args.from c.args.end c.args.today c.requires c.class_section.ensures c.in_ok-classes.was
+          c.priority_section.ensures c.in_ok-priorities.was c.security_section.ensures c.in_ok-securities.was,
+    )
+
+pub overflow_add-result : goal.overflow_add-result
+overflow_add-result c =
+    omega (
+      arith,
+      c_few c.args.s.now c.args.from c.args.end c.args.today c.requires c.class_section.ensures c.in_ok-classes.was,
+      o_few c.args.s.now c.args.from c.args.end c.args.today c.requires c.class_section.ensures c.in_ok-classes.was
+          c.priority_section.ensures c.in_ok-priorities.was,
+      b_few c.args.s.now c.args.from c.args.end c.args.today c.requires c.class_section.ensures c.in_ok-classes.was
+          c.priority_section.ensures c.in_ok-priorities.was c.security_section.ensures c.in_ok-securities.was,
+      t_few c.args.s.now c.args.from c.args.end c.args.today c.requires c.class_section.ensures c.in_ok-classes.was
+          c.priority_section.ensures c.in_ok-priorities.was c.security_section.ensures c.in_ok-securities.was
+          c.trade_section.ensures c.in_ok-trades.was,
+    )
+
+pub returns-then-behind-s : goal.returns-then-behind-s
+returns-then-behind-s c d on =
+    goes_further c.args.s.now c.args.from c.args.end c.args.today c.requires c.class_section.ensures c.in_ok-classes.was
+    c.priority_section.ensures c.in_ok-priorities.was c.security_section.ensures c.in_ok-securities.was
+    c.trade_section.ensures d on c.in_ok-trades.was c.if-behind-s.true
+
+pub returns : goal.returns
+returns c d on =
+    ends c.args.s.now c.args.from c.args.end c.args.today c.requires c.class_section.ensures c.in_ok-classes.was
+    c.priority_section.ensures c.in_ok-priorities.was c.security_section.ensures c.in_ok-securities.was
+    c.trade_section.ensures d on c.in_ok-trades.was c.if-behind-s.false

@@ -7,10 +7,10 @@ use Rattle.sections.proofs.Rooms.{Judging}
 use Rattle.trades.proofs.Turns.{judge}
 use Rattle.trades.proofs.trade_section.Given as goal
 
-abbrev pub invariant-loop-line : goal.invariant-loop-line
-invariant-loop-line l =
-    (size : length (take l.securities.count l.securities.codes) ≡ l.securities.count)
-    → Judging (judge l.today l.securities size) l.s l.from l.first l.table.rows l.table.count l.at tt
+abbrev pub invariant-loop-table : goal.invariant-loop-table
+invariant-loop-table l =
+    (size : length (take (length l.securities.rows.items) l.securities.codes) ≡ length l.securities.rows.items)
+    → Judging (judge l.today l.securities size) l.s l.from l.first l.table.items l.at tt
 
-abbrev pub decreases-loop-line : goal.decreases-loop-line
-decreases-loop-line l = l.end - l.at
+abbrev pub decreases-loop-table : goal.decreases-loop-table
+decreases-loop-table l = l.end - l.at
