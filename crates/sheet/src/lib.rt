@@ -21,7 +21,7 @@ fn tables_from(s: &[u8], from: Place, end: Place, today: Day) -> Result<Tables, 
     ensures { (date : Date) → today ≡ day date → result ≡ held_sheet (read_tables date (3, lines (drop from s.now))) }
 {
     let (classes, behind_classes) = classes::class_section(s, from, end, 3)?;
-    let first = 3 + classes.count as u32; // line of the O rows
+    let first = 3 + classes.len() as u32; // line of the O rows
     let (priorities, behind_priorities) = priorities::priority_section(
         s,
         behind_classes,
@@ -29,7 +29,7 @@ fn tables_from(s: &[u8], from: Place, end: Place, today: Day) -> Result<Tables, 
         &classes,
         first,
     )?;
-    let second = first + priorities.count as u32; // line of the S rows
+    let second = first + priorities.len() as u32; // line of the S rows
     let (securities, behind_securities) = securities::security_section(
         s,
         behind_priorities,
@@ -37,7 +37,7 @@ fn tables_from(s: &[u8], from: Place, end: Place, today: Day) -> Result<Tables, 
         &classes,
         second,
     )?;
-    let third = second + securities.count as u32; // line of the T rows
+    let third = second + securities.rows.len() as u32; // line of the T rows
     let working = days::working_after(today);
     let (trades, behind) = trades::trade_section(
         s,
@@ -51,7 +51,7 @@ fn tables_from(s: &[u8], from: Place, end: Place, today: Day) -> Result<Tables, 
     if behind != s.len() {
         return Err(Refused {
             refusal: Refusal::Row,
-            line: third as u64 + trades.count as u64,
+            line: third as u64 + trades.len() as u64,
         });
     }
     Ok(Tables {
