@@ -1,13 +1,11 @@
--- Something for each rank: as a list, and as a table that is filled from the first rank to the last.
+-- Something for each rank: as a list, and as a vector that is filled from the first rank to the last.
 use Prim.Native.Nat.{ℕ, zero, suc, ◌+◌, ◌-◌, ◌≤◌, ◌<◌}
 use native.Mathlib.Numerals.{add-one}
 use native.Mathlib.Omega.{arith}
 use mathlib.Core.List.{List, [], ◌∷◌, ◌++◌, map}
 use mathlib.Core.Path.{◌≡◌, refl, sym, ap, ap₂, ◌∙◌}
-use lib.ListN.{length, set}
+use lib.ListN.{length}
 use Rattle.paper.specs.Lists.{Each, nil, cons}
-use Rattle.tables.specs.Padded.{padded}
-use Rattle.tables.proofs.Padded.{padded_more}
 use Rattle.tables.proofs.Places.{Stands, here, there}
 use Rattle.margin.specs.Openings.{from_rank}
 
@@ -49,13 +47,8 @@ module _ {A : Type 0} (make : ℕ → A) where
   ranks_made f xs same = made_from_lem f xs 0 (λ k x at. let start : 0 + k ≡ k = omega arith in rw start (same k x at))
 
   -- A turn of a loop by rising rank
-  module _ (most : ℕ) (none : A) where
-    pub rank_stored : (rank : ℕ) (table : List A) (a : A) → rank < most → table ≡ padded most none (from_rank make rank 0) → a ≡ make rank
-        → set table rank a ≡ padded most none (from_rank make (rank + 1) 0)
-    rank_stored rank table a room e is =
-        let hs = from_rank make rank 0 in
-        let same : 0 + rank ≡ rank = omega arith in
-        let more : hs ++ (a ∷ []) ≡ from_rank make (suc rank) 0 = ap (λ (b : A). hs ++ (b ∷ [])) (is ∙ ap make (sym same)) ∙ sym (ranks_more rank 0) in
-        ap₂ (λ (l : List A) (n : ℕ). set l n a) e (sym (ranks_many rank 0)) ∙ padded_more most none a hs (omega (arith, ranks_many rank 0))
-        ∙ ap (padded most none) more
-        ∙ ap (λ (n : ℕ). padded most none (from_rank make n 0)) (sym (add-one rank))
+  pub ranks_pushed : (rank : ℕ) {hs : List A} {a : A} → hs ≡ from_rank make rank 0 → a ≡ make rank → hs ++ (a ∷ []) ≡ from_rank make (rank + 1) 0
+  ranks_pushed rank e is =
+      let same : 0 + rank ≡ rank = omega arith in
+      ap₂ (λ (l : List A) (b : A). l ++ (b ∷ [])) e (is ∙ ap make (sym same)) ∙ sym (ranks_more rank 0)
+      ∙ ap (λ (n : ℕ). from_rank make n 0) (sym (add-one rank))

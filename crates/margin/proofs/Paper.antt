@@ -30,20 +30,18 @@ use Rattle.paper.proofs.Currencies.{few_currencies, each_currency}
 use Rattle.paper.proofs.Totals.{TableFacts, table_facts}
 use Rattle.tables.specs.Padded.{padded}
 use Rattle.tables.specs.Numbers.{trade_number, code_number, currency_number}
-use Rattle.tables.specs.Held.{no_class, no_priority, no_security, no_trade, held_class, held_priority, held_security, codes_of, held_tables}
+use Rattle.tables.specs.Held.{no_security, held_class, held_priority, held_security, codes_of, held_tables}
 use Rattle.tables.specs.declared.Security.{Security}
 use Rattle.tables.specs.declared.Trade.{Trade}
-use Rattle.tables.proofs.Padded.{table_front}
 use Rattle.tables.proofs.Numbers.{code_number_same, currency_number_same}
 use Rattle.tables.proofs.Places.{Stands, stands_low, stands_each, stands_made, each_standing, Rises, rises_same, currencies_rise, currency_stands, codes_rise}
 use Rattle.valuation.specs.Valued.{Ranged, Quoted}
 use Rattle.valuation.specs.declared.Valued.{Valued}
 use Rattle.offsetting.specs.Books.{row_of}
-use Rattle.margin.specs.Sums.{security_in, value_in, sums_of}
-use Rattle.margin.specs.Openings.{Net, net_at, nets_of}
-use Rattle.margin.specs.Figures.{margin_in, class_rows, priority_rows, security_rows, trade_rows, no_currency, trade_sums, opening_book, currency_at, figures_of, TablesRanged}
+use Rattle.margin.specs.Sums.{security_in, value_in}
+use Rattle.margin.specs.Openings.{Net, from_rank, net_at, nets_of}
+use Rattle.margin.specs.Figures.{margin_in, trade_sums, opening_book, currency_at, figures_of, TablesRanged}
 use Rattle.margin.specs.Held.{mark_of, held_currency, held_figures}
-use Rattle.margin.specs.declared.Sums.{Sums}
 use Rattle.margin.specs.declared.Currency.{Currency}
 use Rattle.margin.proofs.Forwards.{ranks_made}
 use Rattle.margin.proofs.Gathered.{gathered_at}
@@ -75,10 +73,6 @@ made_same {B = B} f g same (cons {a} p ps) = ap₂ (λ (b : B) (l : List B). b �
 abbrev pub trades_line : Tables → Line
 trades_line t = 3 + length t.classes + length t.priorities + length t.securities
 
--- The sums of the trades
-abbrev sums_in : Tables → Sums
-sums_in t = sums_of (rows_of t) (map (trade_in t) t.trades)
-
 -- The net of a security, with its class and the rank of its currency
 abbrev ranked_net : Tables → SecurityRow → Net
 ranked_net t s =
@@ -104,19 +98,6 @@ module _ (t : Tables) (admitted : Admitted t) where
   pub currencies_few : length (currencies t.securities) ≤ 8
   currencies_few = few_currencies t.classes t.securities admitted.3
 
-  -- The rows of each table
-  classes_held : class_rows (held_tables t).classes ≡ map held_class t.classes
-  classes_held = table_front 40 no_class held_class t.classes facts.few_classes
-
-  priorities_held : priority_rows (held_tables t).priorities ≡ map held_priority t.priorities
-  priorities_held = table_front 200 no_priority held_priority t.priorities facts.few_priorities
-
-  securities_held : security_rows (held_tables t).securities ≡ map (held_security t.classes (currencies t.securities)) t.securities
-  securities_held = table_front 200 no_security (held_security t.classes (currencies t.securities)) t.securities facts.few_securities
-
-  trades_held : trade_rows (held_tables t).trades ≡ map (trade_in t) t.trades
-  trades_held = table_front 500 no_trade (trade_in t) t.trades facts.few_trades
-
   -- The currency of a security is that of a rank exactly where the rank is its own
   pub rank_of : {s : SecurityRow} {i : ℕ} → Stands s t.securities i → (k : ℕ) (c : units.Currency) → Stands c (currencies t.securities) k
       → same s.currency c ≡ eqb (ranked_net t s).rank k
@@ -124,10 +105,10 @@ module _ (t : Tables) (admitted : Admitted t) where
       currency_number_same s.currency c (stands_each letters at) (stands_each (each_currency (λ c. is_currency c ≡ true) t.securities letters) own)
       ∙ rises_same currency_number (currency_stands at rising_currencies) own rising_currencies
 
-  -- The worths of a security, cents
-  worth_held : (k : ℕ) (s : SecurityRow) → Stands s t.securities k
-      → get_or (sums_in t).worths k (pos 0) ≡ signed_sum (signed_worths_in s.code (valued_in t))
-  worth_held k s at =
+  -- The worths of a security, cents, as they stand in what a currency begins with
+  pub opening_worth : (k : ℕ) (s : SecurityRow) → Stands s t.securities k
+      → get_or (trade_sums (held_tables t)).worths k (pos 0) ≡ signed_sum (signed_worths_in s.code (valued_in t))
+  opening_worth k s at =
       gathered_at 200 (λ h. h.security) (λ h. (value_in (rows_of t) h).worth) k (omega (arith, stands_low at, facts.few_securities)) (map (trade_in t) t.trades)
       ∙ sums_held t admitted (λ v. v.worth) refl (λ h. eqb h.security k) (λ v. same v.security.code s.code)
       (λ r known line.
@@ -136,13 +117,8 @@ module _ (t : Tables) (admitted : Admitted t) where
       (trades_line t)
       (trades_known t admitted)
 
-  -- ... as they stand in what a currency begins with
-  pub opening_worth : (k : ℕ) (s : SecurityRow) → Stands s t.securities k
-      → get_or (trade_sums (held_tables t)).worths k (pos 0) ≡ signed_sum (signed_worths_in s.code (valued_in t))
-  opening_worth k s at = rw trades_held (worth_held k s at)
-
   -- The mark-to-market sum of a currency, cents
-  total_held : (k : ℕ) (c : units.Currency) → Stands c (currencies t.securities) k → get_or (sums_in t).totals k (pos 0) ≡ mark_in c (valued_in t)
+  total_held : (k : ℕ) (c : units.Currency) → Stands c (currencies t.securities) k → get_or (trade_sums (held_tables t)).totals k (pos 0) ≡ mark_in c (valued_in t)
   total_held k c at =
       gathered_at 8 (λ h. (security_in (rows_of t) h).currency) (λ h. (value_in (rows_of t) h).mark) k (omega (arith, stands_low at, currencies_few)) (map (trade_in t) t.trades)
       ∙ sums_held t admitted (λ v. v.mark) refl (λ h. eqb (security_in (rows_of t) h).currency k) (λ v. same v.security.currency c)
@@ -151,35 +127,35 @@ module _ (t : Tables) (admitted : Admitted t) where
       (trades_known t admitted)
 
   -- The nets of the securities, whole units
-  nets_held : nets_of (security_rows (held_tables t).securities) (sums_in t).worths ≡ map (ranked_net t) t.securities
+  nets_held : nets_of (rows_of t) (trade_sums (held_tables t)).worths ≡ map (ranked_net t) t.securities
   nets_held =
       let held = held_security t.classes (currencies t.securities) in
-      rw (securities_held, length-map t.securities held)
-      (ranks_made (net_at (map held t.securities) (sums_in t).worths) (ranked_net t) t.securities
+      rw (length-map t.securities held)
+      (ranks_made (net_at (rows_of t) (trade_sums (held_tables t)).worths) (ranked_net t) t.securities
       (λ k s at.
       ap₂ (λ (h : Security) (worth : SignedCents). record { rank = h.currency; class = h.class; net = rounded worth 100 })
       (stands_made held no_security at)
-      (worth_held k s at)))
+      (opening_worth k s at)))
 
   -- The opening positions of a currency are the paper's
   pub opening_held : (k : ℕ) (c : units.Currency) → Stands c (currencies t.securities) k → opening_book (held_tables t) k ≡ opening_in t c
   opening_held k c at =
-      rw (trades_held, nets_held)
+      rw nets_held
       (rank_opened (λ s. same s.currency c) (netted_in t.classes (valued_in t)) (ranked_net t) k (omega (arith, stands_low at, currencies_few))
       (each_standing t.securities (λ i s own. (rank_of own k c at, refl, refl))))
 
   -- The O rows are the paper's
-  pub priorities_paper : map row_of (priority_rows (held_tables t).priorities) ≡ t.priorities
-  priorities_paper = ap (map row_of) priorities_held ∙ map-map row_of held_priority t.priorities ∙ map-id t.priorities
+  pub priorities_paper : map row_of (held_tables t).priorities.items ≡ t.priorities
+  priorities_paper = map-map row_of held_priority t.priorities ∙ map-id t.priorities
 
   -- The class margins of positions, whole units
-  margins_held : (b : Book) → map (margin_in b) (class_rows (held_tables t).classes) ≡ map (margin_of b) t.classes
-  margins_held b = ap (map (margin_in b)) classes_held ∙ map-map (margin_in b) held_class t.classes
+  margins_held : (b : Book) → map (margin_in b) (held_tables t).classes.items ≡ map (margin_of b) t.classes
+  margins_held b = map-map (margin_in b) held_class t.classes
 
   -- The figures of a currency
   currency_held : (k : ℕ) (c : units.Currency) → Stands c (currencies t.securities) k → currency_at (held_tables t) k ≡ held_currency t c
   currency_held k c at =
-      rw (opening_held k c at, trades_held, total_held k c at, priorities_paper, margins_held)
+      rw (opening_held k c at, total_held k c at, priorities_paper, margins_held)
 
   -- The mark-to-market of a trade, cents
   mark_held : (r : TradeRow) → Known t r → (value_in (rows_of t) (trade_in t r)).mark ≡ mark_of t r
@@ -193,9 +169,10 @@ module _ (t : Tables) (admitted : Admitted t) where
   pub figures_held : figures_of (held_tables t) ≡ held_figures t
   figures_held =
       let mark : Trade → SignedCents = λ h. (value_in (rows_of t) h).mark in
-      ap₂ (λ (marks : List SignedCents) (each : List Currency). record { marks = padded 500 (pos 0) marks; currencies = padded 8 no_currency each })
-      (ap (map mark) trades_held ∙ map-map mark (trade_in t) t.trades ∙ made_same (λ r. mark (trade_in t r)) (mark_of t) mark_held (trades_known t admitted))
-      (ranks_made (currency_at (held_tables t)) (held_currency t) (currencies t.securities) currency_held)
+      ap₂ (λ (marks : List SignedCents) (each : List Currency). record { marks = padded 500 (pos 0) marks; currencies = record { items = each } })
+      (map-map mark (trade_in t) t.trades ∙ made_same (λ r. mark (trade_in t r)) (mark_of t) mark_held (trades_known t admitted))
+      (ap (λ (many : ℕ). from_rank (currency_at (held_tables t)) many 0) (length-map (currencies t.securities) currency_number)
+      ∙ ranks_made (currency_at (held_tables t)) (held_currency t) (currencies t.securities) currency_held)
 
   -- A trade of admitted tables is within its ranges
   trade_ranged : (r : TradeRow) → Known t r → margined (day t.date) r ≡ true → Ranged (trade_in t r)
@@ -234,26 +211,19 @@ module _ (t : Tables) (admitted : Admitted t) where
   pub tables_ranged : TablesRanged (held_tables t)
   tables_ranged =
       record {
-        few_classes = facts.few_classes;
-        few_priorities = facts.few_priorities;
-        few_securities = facts.few_securities;
-        few_trades = facts.few_trades;
-        few_currencies = currencies_few;
-        classes = rw classes_held (each_made held_class t.classes (each_map (λ c f. record { class = f.high; deposit = f.deposit }) facts.classes));
-        priorities = rw priorities_held (each_made held_priority t.priorities facts.priorities);
+        classes = each_made held_class t.classes (each_map (λ c f. record { class = f.high; deposit = f.deposit }) facts.classes);
+        priorities = each_made held_priority t.priorities facts.priorities;
         securities =
-            rw securities_held
-            (each_made _ t.securities
-            (each_standing t.securities (λ k s at. record { class = class_most t.classes facts.classes s.kind s.duration; currency = rank_low at })));
+            each_made (held_security t.classes (currencies t.securities)) t.securities
+            (each_standing t.securities (λ k s at. record { class = class_most t.classes facts.classes s.kind s.duration; currency = rank_low at }));
         trades =
-            rw trades_held
-            (each_made (trade_in t) t.trades
+            each_made (trade_in t) t.trades
             (each_map
             (λ r known.
             record {
-              security = omega (arith, stands_low known.stands, facts.few_securities);
+              security = omega (arith, stands_low known.stands, length-map t.securities (held_security t.classes (currencies t.securities)));
               currency = rw (security_held t admitted known.stands) (rank_low known.stands);
               ranged = λ m. (trade_ranged r known m, rw (security_held t admitted known.stands) (security_ranged r known m));
             })
-            (trades_known t admitted)));
+            (trades_known t admitted));
       }

@@ -3,9 +3,11 @@ use Prim.Native.Nat.{ℕ, zero, suc, ◌+◌, ◌≤◌, ◌<◌}
 use native.Mathlib.Nat.{le_trans, mul-le-mul_right}
 use native.Mathlib.Omega.{arith}
 use mathlib.Core.List.{List, [], ◌∷◌}
-use mathlib.Core.Path.{◌≡◌}
+use mathlib.Core.Path.{◌≡◌, refl, ap₂, ◌∙◌}
 use lib.IntN.{pos, nat_abs}
-use lib.ListN.{length, get_or, set, length-take}
+use lib.ListN.{length, get_or, set}
+use mir.Syntax.{w64}
+use mir.Val.{to_z, of_z}
 use Rattle.std.proofs.lemmas.List.{get_or_default}
 use Rattle.paper.specs.Units.{Class, SignedCents, Whole, SignedWhole}
 use Rattle.paper.specs.Rounding.{rounded}
@@ -13,20 +15,24 @@ use Rattle.paper.specs.Signs.{above_zero, below_zero}
 use Rattle.paper.specs.Lists.{Each}
 use Rattle.paper.specs.Offsetting as paper
 use Rattle.paper.specs.Offsetting.{position}
-use Rattle.paper.specs.Bounds.{most_net_cents, most_net, most_position, most_initial, BookFacts}
+use Rattle.paper.specs.Bounds.{most_net_cents, most_net, most_position, most_initial, most_mark_sum, BookFacts}
 use Rattle.paper.proofs.Lists.{each_map}
 use Rattle.paper.proofs.Sizes.{rounded_at_most, above_within, below_within}
 use Rattle.paper.proofs.Totals.{margin_on_most, margins_most}
+use Rattle.whole.proofs.Signs.{read_back}
 use Rattle.tables.specs.declared.ClassRow.{ClassRow}
 use Rattle.tables.specs.declared.Security.{Security}
 use Rattle.tables.specs.declared.Tables.{Tables}
+use Rattle.tables.specs.declared.Trade.{Trade}
 use Rattle.offsetting.specs.Books.{book_of}
 use Rattle.offsetting.specs.declared.Book.{Book}
-use Rattle.margin.specs.Openings.{Net, from_rank, net_at, no_book, with_net, openings_of}
-use Rattle.margin.specs.Figures.{margin_in, margins_of, security_rows, trade_sums, opening_book, ClassRanged, TablesRanged}
+use Rattle.margin.specs.Sums.{sums_of}
+use Rattle.margin.specs.Openings.{Net, from_rank, net_at, nets_of, no_book, with_net, openings_of, Seated}
+use Rattle.margin.specs.Figures.{margin_in, margins_of, trade_sums, opening_of, opening_book, ClassRanged, TablesRanged, Opened}
+use Rattle.margin.specs.declared.Sums.{Sums}
 use Rattle.margin.proofs.Gathered.{same_at, gathered_length, gathered_most}
 use Rattle.margin.proofs.Forwards.{ranks_many, ranks_each}
-use Rattle.margin.proofs.Values.{table_worths_most}
+use Rattle.margin.proofs.Values.{table_worths_most, table_totals_most}
 
 -- The net of a worth is as small as a security's: whole units
 pub net_small : (worth : SignedCents) → nat_abs worth ≤ most_net_cents → nat_abs (rounded worth 100) ≤ most_net
@@ -75,11 +81,48 @@ book_there ns e rank low other =
     (omega (arith, gathered_length (λ n b. with_net n.class n.net b) no_book 8 (λ n. n.rank) (λ n. n) ns)))
 
 -- Those of tables are so
-pub opening_most : (t : Tables) → TablesRanged t → (rank : ℕ) → BookFacts (opening_book t rank)
-opening_most t ranged rank =
-    book_most (security_rows t.securities) (trade_sums t).worths (table_worths_most t ranged) (length (security_rows t.securities)) 0
-    (omega (arith, length-take t.securities.count t.securities.rows, ranged.few_securities))
-    rank
+pub opening_most : (t : Tables) → TablesRanged t → length t.trades.items ≤ 500 → length t.securities.rows.items ≤ 200 → (rank : ℕ)
+    → BookFacts (opening_book t rank)
+opening_most t ranged trades securities =
+    book_most t.securities.rows.items (trade_sums t).worths (table_worths_most t ranged trades) (length t.securities.rows.items) 0 securities
+
+-- Slices that are the rows of tables, and their sums
+module _ (t : Tables) (ranged : TablesRanged t) {ts : List Trade} {ss : List Security} (trades : ts ≡ t.trades.items)
+    (securities : ss ≡ t.securities.rows.items) (few_trades : length ts ≤ 500) (few_securities : length ss ≤ 200)
+    {sums : Sums} (summed : sums ≡ sums_of ss ts) where
+  sums_are : sums ≡ trade_sums t
+  sums_are = summed ∙ ap₂ sums_of securities trades
+
+  -- The worths are small: cents
+  worths_small : (k : ℕ) → nat_abs (get_or sums.worths k (pos 0)) ≤ most_net_cents
+  worths_small = rw sums_are (table_worths_most t ranged (rw trades at few_trades))
+
+  -- What opening positions asks for
+  pub opens : (length ss ≤ 200) × Each Seated ss × ((k : ℕ) → nat_abs (get_or sums.worths k (pos 0)) ≤ most_net_cents)
+  opens = (few_securities, rw securities ranged.securities, worths_small)
+
+  -- The mark-to-market sum of a currency is that of the tables, and small: cents
+  pub total_is : (k : ℕ) → to_z w64 (of_z w64 (get_or sums.totals k (pos 0))) ≡ get_or (trade_sums t).totals k (pos 0)
+  total_is k = rw sums_are (read_back _ refl (omega (arith, table_totals_most t ranged (rw trades at few_trades) k)))
+
+  pub total_small : (k : ℕ) → nat_abs (to_z w64 (of_z w64 (get_or sums.totals k (pos 0)))) ≤ most_mark_sum
+  total_small k = rw (total_is k) (table_totals_most t ranged (rw trades at few_trades) k)
+
+  -- The positions in a currency are what it begins with, and within the table of bounds
+  module _ {openings : List Book} (opened : openings ≡ openings_of (nets_of ss sums.worths)) (k : ℕ) (low : k < 8) (other : Book) where
+    pub book_is : get_or openings k other ≡ (opening_of t k).book
+    book_is =
+        book_there (nets_of t.securities.rows.items (trade_sums t).worths)
+        (opened ∙ ap₂ (λ (ss : List Security) (s : Sums). openings_of (nets_of ss s.worths)) securities sums_are)
+        k
+        low
+        other
+
+    pub book_small : BookFacts (book_of (get_or openings k other))
+    book_small = rw book_is (opening_most t ranged (rw trades at few_trades) (rw securities at few_securities) k)
+
+    pub opened_small : Opened (record { worths = sums.worths; book = get_or openings k other })
+    opened_small = record { worths = worths_small; book = book_small }
 
 -- The margins of classes on positions within the table of bounds come to no more than it says: whole units
 pub initial_most : (b : paper.Book) {cs : List ClassRow} → length cs ≤ 40 → Each ClassRanged cs → BookFacts b → (margins_of b cs).initial ≤ most_initial

@@ -26,7 +26,7 @@ use Rattle.tables.specs.Held.{no_security, held_security, held_trade, codes_of, 
 use Rattle.tables.specs.declared.Security.{Security}
 use Rattle.tables.specs.declared.Trade.{Trade}
 use Rattle.tables.proofs.Numbers.{code_number_same}
-use Rattle.tables.proofs.Places.{Stands, first_stands, stands_held}
+use Rattle.tables.proofs.Places.{Stands, first_stands, stands_made}
 use Rattle.valuation.specs.Valued.{trade_of, side_of, interest_on, value_of}
 use Rattle.valuation.specs.declared.Valued.{Valued}
 use Rattle.margin.specs.Sums.{value_in}
@@ -105,7 +105,7 @@ valued_own today ss line r rs s e found = rw (e, found, valued_from)
 
 -- The securities as the code holds them, and a trade
 abbrev pub rows_of : Tables → List Security
-rows_of t = (held_tables t).securities.rows
+rows_of t = (held_tables t).securities.rows.items
 
 abbrev pub trade_in : Tables → TradeRow → Trade
 trade_in t r = held_trade (day t.date) (codes_of t.securities) r
@@ -114,7 +114,7 @@ module _ (t : Tables) (admitted : Admitted t) where
   -- A security stands at its place
   pub security_held : {s : SecurityRow} {k : ℕ} → Stands s t.securities k
       → get_or (rows_of t) k no_security ≡ held_security t.classes (currencies t.securities) s
-  security_held at = stands_held 200 no_security (held_security t.classes (currencies t.securities)) (table_facts t admitted).few_securities at no_security
+  security_held at = stands_made (held_security t.classes (currencies t.securities)) no_security at
 
   -- The figures of a trade are the paper's: cents
   pub value_held : (r : TradeRow) (known : Known t r) (own : Bool) → margined (day t.date) r ≡ own → (line : Line)

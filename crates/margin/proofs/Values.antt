@@ -1,11 +1,10 @@
 -- The sums of trades are within the table of bounds.
 use Prim.Native.Nat.{ℕ, ◌≤◌}
 use native.Mathlib.Nat.{le_trans, mul-le-mul_right}
-use native.Mathlib.Omega.{arith}
 use mathlib.Core.List.{List}
-use mathlib.Core.Path.{◌≡◌, refl}
+use mathlib.Core.Path.{refl}
 use lib.IntN.{pos, nat_abs, ◌+ℤ◌}
-use lib.ListN.{length, get_or, length-take}
+use lib.ListN.{length, get_or}
 use Rattle.paper.specs.Lists.{Each}
 use Rattle.paper.specs.Bounds.{most_worth, most_mark, most_net_cents, most_mark_sum}
 use Rattle.paper.proofs.Lists.{each_map}
@@ -15,9 +14,7 @@ use Rattle.tables.specs.declared.Tables.{Tables}
 use Rattle.tables.specs.declared.Trade.{Trade}
 use Rattle.valuation.proofs.Within.{value_within}
 use Rattle.margin.specs.Sums.{security_in, value_in, sums_of, Placed}
-use Rattle.margin.specs.Openings.{Seated}
-use Rattle.margin.specs.Figures.{security_rows, trade_rows, trade_sums, TablesRanged}
-use Rattle.margin.specs.declared.Sums.{Sums}
+use Rattle.margin.specs.Figures.{trade_sums, TablesRanged}
 use Rattle.margin.proofs.Gathered.{gathered_most}
 
 -- The sums of at most 500 trades, in size: the worths by security, and the marks by currency, in cents
@@ -37,17 +34,9 @@ module _ (ss : List Security) {ts : List Trade} (few : length ts ≤ 500) (place
       (mul-le-mul_right {n = 500} most_mark few)
 
 -- ... and so are those of tables
-module _ (t : Tables) (ranged : TablesRanged t) where
-  few : length (trade_rows t.trades) ≤ 500
-  few = omega (arith, length-take t.trades.count t.trades.rows, ranged.few_trades)
-
+module _ (t : Tables) (ranged : TablesRanged t) (few : length t.trades.items ≤ 500) where
   pub table_worths_most : (k : ℕ) → nat_abs (get_or (trade_sums t).worths k (pos 0)) ≤ most_net_cents
-  table_worths_most = worths_most t.securities.rows few ranged.trades
+  table_worths_most = worths_most t.securities.rows.items few ranged.trades
 
   pub table_totals_most : (k : ℕ) → nat_abs (get_or (trade_sums t).totals k (pos 0)) ≤ most_mark_sum
-  table_totals_most = totals_most t.securities.rows few ranged.trades
-
-  -- What opening positions asks for: the rows have their places, and the worths that are read are small
-  pub opens : {sums : Sums} → sums ≡ trade_sums t → (length (security_rows t.securities) ≤ 200) × Each Seated (security_rows t.securities)
-      × ((k : ℕ) → nat_abs (get_or sums.worths k (pos 0)) ≤ most_net_cents)
-  opens e = (omega (arith, length-take t.securities.count t.securities.rows, ranged.few_securities), ranged.securities, rw e table_worths_most)
+  table_totals_most = totals_most t.securities.rows.items few ranged.trades

@@ -12,7 +12,6 @@ use Rattle.paper.specs.Offsetting.{nets_in, opening, offset_all, total}
 use Rattle.paper.specs.Report.{margin_of, mark_in}
 use Rattle.tables.specs.Padded.{padded}
 use Rattle.offsetting.specs.Books.{held_book}
-use Rattle.margin.specs.Figures.{no_currency}
 use Rattle.margin.specs.declared.Currency.{Currency}
 use Rattle.margin.specs.declared.Figures.{Figures}
 
@@ -43,5 +42,5 @@ abbrev pub held_figures : Tables → Figures
 held_figures t =
     record {
       marks = padded 500 (pos 0) (map (mark_of t) t.trades);
-      currencies = padded 8 no_currency (map (held_currency t) (currencies t.securities));
+      currencies = record { items = map (held_currency t) (currencies t.securities) };
     }

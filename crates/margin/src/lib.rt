@@ -6,12 +6,13 @@ ghost use Rattle.std.specs.Prelude.{◌≡◌, ℕ, ◌+◌, ◌≤◌, ◌<◌,
 ghost use Rattle.paper.specs.Lists.{Each};
 ghost use Rattle.paper.specs.Rounding.{rounded as rounded_of};
 ghost use Rattle.paper.specs.Offsetting.{total as total_of};
-ghost use Rattle.paper.specs.Bounds.{PriorityFacts, BookFacts, most_net_cents, most_initial, most_mark_sum};
+ghost use Rattle.paper.specs.Bounds.{PriorityFacts, BookFacts, most_net_cents, most_position, most_initial, most_mark_sum};
 ghost use Rattle.offsetting.specs.Books.{book_of, row_of};
 ghost use Rattle.margin.specs.Sums.{Placed, sums_of};
-ghost use Rattle.margin.specs.Openings.{Seated, no_book, with_net, nets_of, openings_of};
-ghost use Rattle.margin.specs.Figures.{ClassRanged, TablesRanged, margin_in, margins_of, opening_of, currency_of, no_currency, figures_of};
+ghost use Rattle.margin.specs.Openings.{Seated, with_net, nets_of, openings_of};
+ghost use Rattle.margin.specs.Figures.{ClassRanged, TablesRanged, Opened, margin_in, margins_of, opening_of, currency_of, figures_of};
 
+use arrayvec::ArrayVec;
 use offsetting::{Book, Whole};
 use tables::{ClassRow, PriorityRow, Security, Tables, Trade};
 use valuation::{Cents, SignedCents};
@@ -39,7 +40,7 @@ pub struct Opening {
 }
 
 // The figures of one currency.
-#[derive(Clone, Copy)]
+#[derive(Clone, Copy, Default)]
 pub struct Currency {
     pub book: Book, // remaining
     pub margins: [Whole; 40], // by the places of the C rows
@@ -49,10 +50,10 @@ pub struct Currency {
 }
 
 // The figures of a sheet.
-#[derive(Clone, Copy)]
+#[derive(Drop)]
 pub struct Figures {
-    pub marks: [SignedCents; 500], // of each trade, 0 where it is not margined
-    pub currencies: [Currency; 8], // rising
+    pub marks: [SignedCents; 500], // of each trade, 0 where it is not margined; no vector: they come from the last trade to the first
+    pub currencies: ArrayVec<Currency, 8>, // rising
 }
 
 // An amount onto the sum at a place.
@@ -64,12 +65,12 @@ fn add_to(
     requires { (place < length sums.old) × (nat_abs amount + nat_abs (get_or sums.old place (pos 0)) < 2 ^ 63) }
     ensures { sums.new ≡ set sums.old place (amount +ℤ get_or sums.old place (pos 0)) }
 {
-    sums[place] = amount + sums[place];
+    sums[place] = whole::sum(amount, sums[place]);
 }
 
 // The trades valued and summed, from the last to the first.
-fn sums_of(trades: &[Trade], securities: &[Security; 200]) -> Sums
-    requires { (length trades.now ≤ 500) × Each (Placed securities.now) trades.now }
+fn sums_of(trades: &[Trade], securities: &[Security]) -> Sums
+    requires { (length trades.now ≤ 500) × (length securities.now ≤ 200) × Each (Placed securities.now) trades.now }
     ensures { result ≡ sums_of securities.now trades.now }
 {
     let mut sums = Sums {
@@ -88,20 +89,10 @@ fn sums_of(trades: &[Trade], securities: &[Security; 200]) -> Sums
     sums
 }
 
-// No positions.
-fn no_book() -> Book
-    ensures { result ≡ no_book }
-{
-    Book {
-        long: [0; 41],
-        short: [0; 41],
-    }
-}
-
 // A security's worth is rounded once to its net, which is long or short.
 #[tactic(auto, using(crate::proofs::Positions::net_small))]
 fn add_net(book: &mut Book, class: usize, worth: SignedCents)
-    requires { (class ≤ 40) × (nat_abs worth ≤ most_net_cents) × BookFacts (book_of book.old) }
+    requires { (class ≤ 40) × (nat_abs worth ≤ most_net_cents) × (get_or book.old.long class 0 ≤ most_position) × (get_or book.old.short class 0 ≤ most_position) }
     ensures { book.new ≡ with_net class (rounded_of worth 100) book.old }
 {
     let net = whole::rounded(worth, 100); // whole units
@@ -114,7 +105,7 @@ fn openings_of(securities: &[Security], worths: &[SignedCents; 200]) -> [Book; 8
     requires { (length securities.now ≤ 200) × Each Seated securities.now × ((i : ℕ) → nat_abs (get_or worths.now i (pos 0)) ≤ most_net_cents) }
     ensures { result ≡ openings_of (nets_of securities.now worths.now) }
 {
-    let mut openings = [no_book(); 8];
+    let mut openings = [Book::default(); 8];
     for i in (0..securities.len()).rev() {
         let security = securities[i];
         add_net(
@@ -132,11 +123,12 @@ pub fn opening_of(
     rank: usize, // currency
 ) -> Opening
     requires { TablesRanged tables.now × (rank < 8) }
-    ensures { result ≡ opening_of tables.now rank }
+    ensures value { result ≡ opening_of tables.now rank }
+    ensures amounts { Opened result }
 {
-    let trades = &tables.trades.rows[..tables.trades.count];
-    let securities = &tables.securities.rows[..tables.securities.count];
-    let Sums { worths, .. } = sums_of(trades, &tables.securities.rows);
+    let trades = tables.trades.as_slice();
+    let securities = tables.securities.rows.as_slice();
+    let Sums { worths, .. } = sums_of(trades, securities);
     let openings = openings_of(securities, &worths);
     let book = openings[rank]; // whole units
     Opening { worths, book }
@@ -204,37 +196,24 @@ fn currency_of(
     }
 }
 
-// What stands where there is no currency.
-fn no_currency() -> Currency
-    ensures { result ≡ no_currency }
-{
-    Currency {
-        book: no_book(),
-        margins: [0; 40],
-        mark: 0,
-        initial: 0,
-        total: 0,
-    }
-}
-
 // The figures of an accepted sheet.
 pub fn figures_of(tables: &Tables) -> Figures
     requires { TablesRanged tables.now }
     ensures { result ≡ figures_of tables.now }
 {
-    let classes = &tables.classes.rows[..tables.classes.count];
-    let priorities = &tables.priorities.rows[..tables.priorities.count];
-    let securities = &tables.securities.rows[..tables.securities.count];
-    let trades = &tables.trades.rows[..tables.trades.count];
+    let classes = tables.classes.as_slice();
+    let priorities = tables.priorities.as_slice();
+    let securities = tables.securities.rows.as_slice();
+    let trades = tables.trades.as_slice();
     let Sums {
         marks,
         worths,
         totals,
-    } = sums_of(trades, &tables.securities.rows);
+    } = sums_of(trades, securities);
     let openings = openings_of(securities, &worths);
-    let mut currencies = [no_currency(); 8];
-    for rank in 0..tables.securities.currencies.count {
-        currencies[rank] = currency_of(openings[rank], classes, priorities, totals[rank]);
+    let mut currencies = ArrayVec::new();
+    for rank in 0..tables.securities.currencies.len() {
+        currencies.push(currency_of(openings[rank], classes, priorities, totals[rank]));
     }
     Figures { marks, currencies }
 }

@@ -1,14 +1,15 @@
 -- The S section's room, how its rows are judged, and the loop turn by turn: the table has the rows above, what judges a row is what they
 -- tell, and what the code makes of a row is what the paper makes of it.
-use Prim.Native.Nat.{ℕ, zero, suc, ◌+◌, ◌≤◌, ◌<◌}
+use Prim.Native.Nat.{ℕ, ◌≤◌, ◌<◌}
 use native.Mathlib.Omega.{arith}
 use mathlib.Core.Bool.{Bool, true, false, not, ◌&&◌, ◌||◌}
-use mathlib.Core.List.{List, [], ◌∷◌, ◌++◌, map, reverse, reverse-cons}
+use mathlib.Core.List.{List, [], ◌∷◌, ◌++◌, map, map-append, reverse, reverse-cons}
 use mathlib.Core.Option as maybe
 use mathlib.Core.Path.{◌≡◌, refl, sym, ap, ap₂, ◌∙◌, subst}
 use Rattle.std.proofs.Common.{Option, Some, None, Result, Ok, Err, is_ok, ok_or}
+use Rattle.std.specs.Prelude.{insert}
 use lib.Dec.{T, eqb, ltb, ltb→lt}
-use lib.ListN.{length, take, set, replicate, length-map}
+use lib.ListN.{length, take, set, length-map}
 use borrow.Author.Tests.{ltb-true}
 use Rattle.paper.specs.Units.{Text, Currency, Class, Line}
 use Rattle.paper.specs.Days.{day}
@@ -29,20 +30,19 @@ use Rattle.answers.specs.Refusals.{refusal}
 use Rattle.answers.specs.declared.Refusal.{Refusal}
 use Rattle.answers.specs.declared.Refusal.TheVariants.{Count, Order, Classless}
 use Rattle.tables.specs.Numbers.{code_number, currency_number, highest}
-use Rattle.tables.specs.Padded.{table_of}
-use Rattle.tables.specs.Held.{no_security, held_security, currency_table, security_table}
+use Rattle.tables.specs.Padded.{padded}
+use Rattle.tables.specs.Held.{held_security, codes_of, security_table}
 use Rattle.tables.specs.Back.{paper_class}
-use Rattle.tables.specs.Ranks.{ranked_of, rank_of, inserted_at}
+use Rattle.tables.specs.Ranks.{ranked_of, rank_of}
 use Rattle.tables.specs.declared.ClassRow.{ClassRow}
-use Rattle.tables.specs.declared.Currencies.{Currencies}
 use Rattle.tables.specs.declared.Securities.{Securities}
 use Rattle.tables.specs.declared.Security.{Security}
 use Rattle.tables.proofs.Numbers.{code_number_before}
-use Rattle.tables.proofs.Padded.{table_more, table_front}
-use Rattle.tables.proofs.Ranks.{Currencied, money_of, rank_place, rank_has, each_there, money_known, money_longer, money_new}
+use Rattle.tables.proofs.Padded.{codes_more}
+use Rattle.tables.proofs.Ranks.{Currencied, money_of, rank_most, rank_place, rank_has, each_there, money_known, money_longer, money_new}
 use Rattle.sections.specs.Sections.{broken}
 use Rattle.sections.proofs.Loops.{Kept, none_kept, more_kept}
-use Rattle.sections.proofs.Rooms.{Room, Judge, Judging, Taken, turn_counted, judging_most}
+use Rattle.sections.proofs.Rooms.{Room, Judge, Judging, Taken}
 use Rattle.classes.specs.Search.{class_in}
 use Rattle.classes.proofs.Looked.{class_found, class_most}
 use Rattle.securities.specs.Read.{held_row}
@@ -137,7 +137,6 @@ room cs =
       its_letter = refl;
       held = held_row;
       most = 200;
-      free = no_security;
       kept = unranked cs;
       table = security_table cs;
     }
@@ -166,15 +165,14 @@ each_reverse : {A : Type 0} {P : A → Type 0} {xs : List A} → Each P xs → E
 each_reverse nil = nil
 each_reverse {P} (cons {a} {rest} p each) = subst (Each P) (sym (reverse-cons a rest)) (each_last (each_reverse each) p)
 
--- The rows of a table with the places of their currencies
-ranked_rows : (cs : List paper.ClassRow) (all : List Currency) (most : ℕ) (ss : List paper.SecurityRow) (free : List Security)
+-- Rows with the places of their currencies
+ranked_rows : (cs : List paper.ClassRow) (all : List Currency) (ss : List paper.SecurityRow)
     → Each (λ s. is_ok (ranked_of (map currency_number all) (own_money s)) ≡ true) ss
-    → with_rank (map currency_number all) (map own_money ss) (take most (map (unranked cs) ss ++ free)) ≡ take most (map (held_security cs all) ss ++ free)
-ranked_rows cs all most [] free nil = refl
-ranked_rows cs all zero (s ∷ ss) free each = refl
-ranked_rows cs all (suc most) (s ∷ ss) free (cons t each) =
+    → with_rank (map currency_number all) (map own_money ss) (map (unranked cs) ss) ≡ map (held_security cs all) ss
+ranked_rows cs all [] nil = refl
+ranked_rows cs all (s ∷ ss) (cons t each) =
     let placed = rank_place (own_money s) (map currency_number all) t in
-    let rest = ranked_rows cs all most ss free each in
+    let rest = ranked_rows cs all ss each in
     λ i. record {
       price = s.price;
       coupon = s.coupon;
@@ -187,7 +185,7 @@ ranked_rows cs all (suc most) (s ∷ ss) free (cons t each) =
 
 -- What the rows above tell: their currencies, which judge a row with the last code, and what is kept of each of them
 pub record Told : Type 0 where
-  pub currencies : Currencies
+  pub currencies : List ℕ
   pub last : Option ℕ
   pub codes : List ℕ
   pub money : List ℕ
@@ -195,43 +193,30 @@ pub record Told : Type 0 where
 abbrev pub told_by : List paper.SecurityRow → Told
 told_by above =
     record {
-      currencies = currency_table (currencies above);
+      currencies = money_of above;
       last = last_of above;
-      codes = table_of 256 highest code_of (reverse above);
-      money = table_of 200 0 own_money (reverse above);
+      codes = padded 256 highest (codes_of (reverse above));
+      money = map own_money (reverse above);
     }
-
--- The first numbers kept of currencies are those of the rows
-first_money : (above : List paper.SecurityRow) {count : ℕ} {seen : Told} → count ≡ length (reverse above) → count ≤ 200 → seen ≡ told_by above
-    → take count seen.money ≡ map own_money (reverse above)
-first_money above {count} {seen} many few seen_is =
-    let money_are : seen.money ≡ table_of 200 0 own_money (reverse above) = ap (λ (told : Told). told.money) seen_is in
-    rw (money_are, many) (table_front 200 0 own_money (reverse above) (omega (arith, many, few)))
 
 -- The table of rows that keep the rules, with the places of their currencies
 ranked_table : (cs : List paper.ClassRow) (above : List paper.SecurityRow) → Kept (security_kind cs) above
-    → {count : ℕ} {held : List Security} {seen : Told} → count ≡ length (reverse above) → count ≤ 200
-    → held ≡ table_of 200 no_security (unranked cs) (reverse above) → seen ≡ told_by above
+    → {held : List Security} {seen : Told} → held ≡ map (unranked cs) (reverse above) → seen ≡ told_by above
     → record {
-      count = count;
-      rows = with_rank (take seen.currencies.count seen.currencies.numbers) (take count seen.money) held;
+      rows = record { items = with_rank seen.currencies seen.money held };
       codes = seen.codes;
-      currencies = seen.currencies;
+      currencies = record { items = seen.currencies };
     } ≡ security_table cs (reverse above)
-ranked_table cs above kept {count} {held} {seen} many few held_is seen_is =
+ranked_table cs above kept {held} {seen} held_is seen_is =
     let ss = reverse above in
     let all : currencies above ≡ currencies ss = sym (currencies_reverse above) in
-    let currencies_are : seen.currencies ≡ currency_table (currencies ss) = ap (λ (told : Told). told.currencies) seen_is ∙ ap currency_table all in
-    let numbers : take seen.currencies.count seen.currencies.numbers ≡ map currency_number (currencies ss) =
-    rw currencies_are (table_front 8 0 currency_number (currencies ss) (rw (sym all) (few_currencies cs kept))) in
-    let own : take count seen.money ≡ map own_money ss = first_money above many few seen_is in
+    let numbers : seen.currencies ≡ map currency_number (currencies ss) = ap (λ (told : Told). told.currencies) seen_is ∙ ap (map currency_number) all in
     let each = subst (λ (ds : List Currency). Each (λ s. is_ok (ranked_of (map currency_number ds) (own_money s)) ≡ true) ss) all
     (each_reverse (each_there above (currencied cs kept))) in
-    let ranks : with_rank (take seen.currencies.count seen.currencies.numbers) (take count seen.money) held
-    ≡ table_of 200 no_security (held_security cs (currencies ss)) ss =
-    rw (numbers, own, held_is) (ranked_rows cs (currencies ss) 200 ss (replicate 200 no_security) each)
+    let ranks : with_rank seen.currencies seen.money held ≡ map (held_security cs (currencies ss)) ss =
+    (λ i. with_rank (numbers i) (seen_is i).money (held_is i)) ∙ ranked_rows cs (currencies ss) ss each
     in
-    λ i. record { count = many i; rows = ranks i; codes = (seen_is i).codes; currencies = currencies_are i }
+    λ i. record { rows = record { items = ranks i }; codes = (seen_is i).codes; currencies = record { items = numbers i } }
 
 -- A class, or the rule that is broken
 abbrev pub rule_of : Result Class Refusal → Option Refusal
@@ -263,7 +248,7 @@ module _ (rows : List ClassRow) where
   -- Whether the currency of a row stands above, and how it is judged
   abbrev pub judged_by : Told → ℕ → SecurityRow → Result Class Refusal
   judged_by told count s =
-      judged_of count (is_ok (ranked_of (take told.currencies.count told.currencies.numbers) s.terms.currency)) told.currencies.count told.last s.terms.number
+      judged_of count (is_ok (ranked_of told.currencies s.terms.currency)) (length told.currencies) told.last s.terms.number
       (class_in rows s.terms.kind s.terms.duration)
 
   -- It is judged as the paper judges it
@@ -272,11 +257,11 @@ module _ (rows : List ClassRow) where
       → rule_of (judged_by (told_by above) (length above) (held_row sheet at s)) ≡ answer (maybe.map refusal (broken ((security_kind cs).others above s)))
   alike sheet at above s kept own =
       let form = formed s own in
-      let eight = ap (λ (ns : List ℕ). is_ok (ranked_of ns (own_money s))) (table_front 8 0 currency_number (currencies above) (few_currencies cs kept))
-      ∙ rank_has above (currencied cs kept) s.currency form.currency in
+      let eight = rank_has above (currencied cs kept) s.currency form.currency in
+      let many = length-map (currencies above) currency_number in
       let nine = last_before above (facts cs kept) s form.code in
       let eleven = class_found s.kind s.duration form.duration rows in
-      (λ i. judged (ltb (length above) 200 && (eight i || ltb (length (currencies above)) 8)) (nine i) (eleven i))
+      (λ i. judged (ltb (length above) 200 && (eight i || ltb (many i) 8)) (nine i) (eleven i))
       ∙ go (ltb (length above) 200 && (has_currency above s.currency || ltb (length (currencies above)) 8)) (every (λ a. before a.code s.code) (take 1 above))
       (class_of cs s.kind s.duration)
     where
@@ -296,8 +281,8 @@ module _ (rows : List ClassRow) where
   -- ---- the loop
 
   -- After so many rows
-  module _ {sheet : Text} {from : Place} {first : Line} {held : List Security} {count : ℕ} {at : Place} {seen : Told}
-      (t : Judging judge sheet from first held count at seen) where
+  module _ {sheet : Text} {from : Place} {first : Line} {held : List Security} {at : Place} {seen : Told}
+      (t : Judging judge sheet from first held at seen) where
     abbrev above : List paper.SecurityRow
     above = t.turn.above
 
@@ -305,43 +290,40 @@ module _ (rows : List ClassRow) where
     kept = t.turn.going.kept
 
     -- The currencies are those of the rows above
-    currencies_are : seen.currencies ≡ currency_table (currencies above)
+    currencies_are : seen.currencies ≡ money_of above
     currencies_are = ap (λ (told : Told). told.currencies) t.seen_is
 
     -- A row is judged by what was found of it
-    pub turn_judged : (s : SecurityRow) {place : Result ℕ ℕ} {there : Bool} {found : Option Class} {judged : Result Class Refusal}
-        → place ≡ ranked_of (take seen.currencies.count seen.currencies.numbers) s.terms.currency → there ≡ is_ok place
-        → found ≡ class_in rows s.terms.kind s.terms.duration → judged ≡ judged_of count there seen.currencies.count seen.last s.terms.number found
-        → judged_by seen count s ≡ judged
-    turn_judged s ranked is class judged =
-        let there = is ∙ ap is_ok ranked in
-        sym (judged ∙ (λ i. judged_of count (there i) seen.currencies.count seen.last s.terms.number (class i)))
-
-    -- No more than there is room for
-    pub turn_currencies : seen.currencies.count ≤ 8
-    turn_currencies = rw currencies_are (few_currencies cs kept)
+    pub turn_judged : (s : SecurityRow) {numbers : List ℕ} {classes : List ClassRow} {place : Result ℕ ℕ} {there : Bool} {found : Option Class}
+        {judged : Result Class Refusal} → numbers ≡ seen.currencies → classes ≡ rows → place ≡ ranked_of numbers s.terms.currency → there ≡ is_ok place
+        → found ≡ class_in classes s.terms.kind s.terms.duration → judged ≡ judged_of (length held) there (length seen.currencies) seen.last s.terms.number found
+        → judged_by seen (length held) s ≡ judged
+    turn_judged s numbers classes ranked is class judged =
+        let there = is ∙ ap is_ok ranked ∙ ap (λ (ns : List ℕ). is_ok (ranked_of ns s.terms.currency)) numbers in
+        let found = class ∙ ap (λ (cs : List ClassRow). class_in cs s.terms.kind s.terms.duration) classes in
+        sym (judged ∙ (λ i. judged_of (length held) (there i) (length seen.currencies) seen.last s.terms.number (found i)))
 
     -- A row that was read, with the class that it has where it breaks no rule
-    module _ {s : SecurityRow} {next : Place} (r : Taken judge t s next) {class : Class} (ok : judged_by seen count s ≡ Ok class) where
+    module _ {s : SecurityRow} {next : Place} (r : Taken judge t s next) {class : Class} (ok : judged_by seen (length held) s ≡ Ok class) where
       abbrev row : paper.SecurityRow
       row = r.row_is
 
       own : Currencied row
       own = (formed row r.own).currency
 
-      clear : rule_of (judged_by seen count s) ≡ None
+      clear : rule_of (judged_by seen (length held) s) ≡ None
       clear = ap rule_of ok
 
       -- It fits the table
-      pub turn_free : count < 200
+      pub turn_free : length held < 200
       turn_free = r.free clear
 
       pub turn_small : Small s
       turn_small = subst Small r.held_is (small sheet at row r.own)
 
-      told : (is_ok (ranked_of (take seen.currencies.count seen.currencies.numbers) s.terms.currency) ≡ false → seen.currencies.count < 8)
+      told : (is_ok (ranked_of seen.currencies s.terms.currency) ≡ false → length seen.currencies < 8)
           × (class_in rows s.terms.kind s.terms.duration ≡ Some class)
-      told = judged_ok count seen.currencies.count s.terms.number _ seen.last _ class ok
+      told = judged_ok (length held) (length seen.currencies) s.terms.number _ seen.last _ class ok
 
       pub turn_class : every (λ c. between 1 40 c.class) rows ≡ true → class ≤ 40
       turn_class within = class_most s.terms.kind s.terms.duration rows within class told.1
@@ -358,53 +340,43 @@ module _ (rows : List ClassRow) where
 
       -- Where its currency stands
       abbrev standing : Result ℕ ℕ
-      standing = ranked_of (take seen.currencies.count seen.currencies.numbers) s.terms.currency
+      standing = ranked_of seen.currencies s.terms.currency
 
       standing_is : standing ≡ ranked_of (money_of above) (own_money row)
-      standing_is =
-          (λ i. ranked_of (take (currencies_are i).count (currencies_are i).numbers) (sym r.held_is i).terms.currency)
-          ∙ ap (λ (ns : List ℕ). ranked_of ns (own_money row)) (table_front 8 0 currency_number (currencies above) (few_currencies cs kept))
+      standing_is = λ i. ranked_of (currencies_are i) (sym r.held_is i).terms.currency
 
-      pub turn_room : {rank : ℕ} → standing ≡ Err rank → seen.currencies.count < 8
-      turn_room e = told.0 (ap is_ok e)
+      -- A currency that stands nowhere has room at its rank
+      pub turn_room : {rank : ℕ} → standing ≡ Err rank → (rank ≤ length seen.currencies) × (length seen.currencies < 8)
+      turn_room e = (omega (arith, ap rank_of e, rank_most s.terms.currency seen.currencies), told.0 (ap is_ok e))
 
       -- The currencies with its own
-      pub turn_known : {rank : ℕ} → standing ≡ Ok rank → seen.currencies ≡ currency_table (currencies (row ∷ above))
-      turn_known e = currencies_are ∙ ap currency_table (sym (money_known above (currencied cs kept) row own (ap is_ok (sym standing_is ∙ e))))
+      pub turn_known : {rank : ℕ} → standing ≡ Ok rank → seen.currencies ≡ money_of (row ∷ above)
+      turn_known e = currencies_are ∙ ap (map currency_number) (sym (money_known above (currencied cs kept) row own (ap is_ok (sym standing_is ∙ e))))
 
-      pub turn_new : {rank : ℕ} → standing ≡ Err rank → inserted_at seen.currencies rank s.terms.currency ≡ currency_table (currencies (row ∷ above))
+      pub turn_new : {rank : ℕ} → standing ≡ Err rank → insert seen.currencies rank s.terms.currency ≡ money_of (row ∷ above)
       turn_new e =
-          (λ i. inserted_at (currencies_are i) (ap rank_of (sym e ∙ standing_is) i) (sym r.held_is i).terms.currency)
+          (λ i. insert (currencies_are i) (ap rank_of (sym e ∙ standing_is) i) (sym r.held_is i).terms.currency)
           ∙ money_new above (currencied cs kept) row own (ap is_ok (sym standing_is ∙ e))
 
       -- It is put into the table
-      pub turn_more : {more : Currencies} → more ≡ currency_table (currencies (row ∷ above))
-          → Judging judge sheet from first (set held count (security_of s class)) (count + 1) next
-          (record { currencies = more; last = Some s.terms.number; codes = set seen.codes count s.terms.number; money = set seen.money count s.terms.currency })
+      pub turn_more : {more : List ℕ} → more ≡ money_of (row ∷ above)
+          → Judging judge sheet from first (held ++ (security_of s class ∷ [])) next
+          (record { currencies = more; last = Some s.terms.number; codes = set seen.codes (length held) s.terms.number; money = seen.money ++ (s.terms.currency ∷ []) })
       turn_more is =
           let codes_are = ap (λ (told : Told). told.codes) t.seen_is in
-          let money_are = ap (λ (told : Told). told.money) t.seen_is in
-          let codes_more = ap (λ (s : SecurityRow). set seen.codes count s.terms.number) (sym r.held_is)
-          ∙ table_more 256 highest code_of above codes_are t.turn.going.counted row (omega (arith, turn_free)) in
-          let money_more = ap (λ (s : SecurityRow). set seen.money count s.terms.currency) (sym r.held_is)
-          ∙ table_more 200 0 own_money above money_are t.turn.going.counted row turn_free in
+          let codes_longer = ap (λ (s : SecurityRow). set seen.codes (length held) s.terms.number) (sym r.held_is)
+          ∙ codes_more above codes_are t.turn.going.counted row (omega (arith, turn_free)) in
+          let money_longer = (λ i. (t.seen_is i).money ++ ((sym r.held_is i).terms.currency ∷ []))
+          ∙ sym (map-append own_money (reverse above) (row ∷ [])) ∙ ap (map own_money) (sym (reverse-cons row above)) in
           r.more clear (security_of s class) (ap₂ security_of (sym r.held_is) class_is) _
-          (λ i. record { currencies = is i; last = Some (sym r.held_is i).terms.number; codes = codes_more i; money = money_more i })
+          (λ i. record { currencies = is i; last = Some (sym r.held_is i).terms.number; codes = codes_longer i; money = money_longer i })
 
     -- ---- the end
 
-    -- As many numbers of currencies as rows
-    pub turn_money : length (take count seen.money) ≡ count
-    turn_money =
-        let many = turn_counted (room cs) t.turn in
-        ap length (first_money above many (judging_most judge t) t.seen_is) ∙ length-map (reverse above) own_money ∙ sym many
-
     -- The table with the places of the currencies
     pub turn_table : record {
-      count = count;
-      rows = with_rank (take seen.currencies.count seen.currencies.numbers) (take count seen.money) held;
+      rows = record { items = with_rank seen.currencies seen.money held };
       codes = seen.codes;
-      currencies = seen.currencies;
+      currencies = record { items = seen.currencies };
     } ≡ security_table cs (reverse above)
-    turn_table =
-        ranked_table cs above kept (turn_counted (room cs) t.turn) (judging_most judge t) t.turn.table_is t.seen_is
+    turn_table = ranked_table cs above kept t.turn.table_is t.seen_is

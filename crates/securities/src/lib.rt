@@ -2,7 +2,7 @@
 // place of its currency among the rising ones; the section is their table, or the refusal of one.
 #![tactic(auto)]
 
-ghost use Rattle.std.specs.Prelude.{◌≡◌, true, ℕ, ◌+◌, ◌≤◌, ◌<◌, length, take, drop};
+ghost use Rattle.std.specs.Prelude.{◌≡◌, true, ℕ, ◌+◌, ◌≤◌, ◌<◌, length, drop};
 ghost use Rattle.paper.specs.Refusals.{security_kind};
 ghost use Rattle.paper.specs.Text.{lines};
 ghost use Rattle.paper.specs.Sheet.{section};
@@ -14,10 +14,11 @@ ghost use Rattle.securities.specs.Ranks.{with_rank};
 ghost use Rattle.securities.specs.Section.{security_section, judged_of, Small, security_of};
 
 use answers::{Refusal, Refused};
+use arrayvec::ArrayVec;
 use classes::{Class, Duration, Kind};
 use days::Day;
 use places::{Line, Place};
-use tables::{Classes, Code, Currencies, Money, Securities, Security};
+use tables::{Classes, Code, Money, Securities, Security};
 
 // What an S row says of its security, but for its coupon dates.
 #[derive(Clone, Copy)]
@@ -104,9 +105,9 @@ fn judged(
     number: Code,
     class: Option<Class>,
 ) -> Result<Class, Refusal>
-    ensures { result ≡ judged_of above.now.count there above.now.currencies.count last number class }
+    ensures { result ≡ judged_of (length above.now.rows.items) there (length above.now.currencies.items) last number class }
 {
-    if 200 <= above.count || (!there && 8 <= above.currencies.count) {
+    if 200 <= above.rows.len() || (!there && 8 <= above.currencies.len()) {
         return Err(Refusal::Count);
     }
     if let Some(last) = last {
@@ -135,15 +136,15 @@ fn security_of(row: SecurityRow, class: Class) -> Security
 
 // Gives rows the places of their currencies among all that there are.
 fn with_ranks(
-    rows: &mut [Security; 200],
+    rows: &mut [Security],
     money: &[Money], // of the rows
-    currencies: &Currencies,
+    currencies: &[Money],
 )
-    requires { (length money.now ≤ 200) × (currencies.now.count ≤ 8) }
-    ensures { rows.new ≡ with_rank (take currencies.now.count currencies.now.numbers) money.now rows.old }
+    requires { (length money.now ≤ length rows.old) × (length currencies.now ≤ 8) }
+    ensures { rows.new ≡ with_rank currencies.now money.now rows.old }
 {
     for (i, &own) in money.iter().enumerate() {
-        let (Ok(rank) | Err(rank)) = tables::ranked(&currencies.numbers, currencies.count, own);
+        let (Ok(rank) | Err(rank)) = tables::ranked(currencies, own);
         rows[i].currency = rank as u32;
     }
 }
@@ -156,16 +157,17 @@ pub fn security_section(
     classes: &Classes,
     first: u32, // line of the first row
 ) -> Result<(Securities, Place), Refused>
-    requires { (from ≤ end) × (end ≡ ended_length s.now) × (classes.now.count ≤ 40) × (ranged classes.now ≡ true) }
+    requires { (from ≤ end) × (end ≡ ended_length s.now) × (ranged classes.now ≡ true) }
     ensures { result ≡ security_section (paper_classes classes.now) s.now from (section (security_kind (paper_classes classes.now)) (first, lines (drop from s.now))) }
 {
-    let mut table = tables::no_securities();
+    let mut table = Securities::new();
     // Beside the rows, not in them: a row has its currency's place, which is not known before the last row.
-    let mut money: [Money; 200] = [0; 200];
+    let mut money: ArrayVec<Money, 200> = ArrayVec::new();
     let mut last: Option<Code> = None;
     let mut at: Place = from;
     while sections::goes_on(s, at, end, b'S') {
-        let line = first as u64 + table.count as u64; // of the sheet
+        let count = table.rows.len(); // rows
+        let line = first as u64 + count as u64; // of the sheet
         let read = security_row(s, at, end);
         let Ok((row, next)) = read else {
             return Err(Refused {
@@ -174,12 +176,8 @@ pub fn security_section(
             });
         };
         let terms = row.terms;
-        let standing = tables::ranked(
-            &table.currencies.numbers,
-            table.currencies.count,
-            terms.currency,
-        );
-        let class = classes::class_of(&classes.rows[..classes.count], terms.kind, terms.duration);
+        let standing = tables::ranked(table.currencies.as_slice(), terms.currency);
+        let class = classes::class_of(classes.as_slice(), terms.kind, terms.duration);
         let judged = judged(&table, standing.is_ok(), last, terms.number, class);
         let Ok(class) = judged else {
             return Err(Refused {
@@ -188,16 +186,18 @@ pub fn security_section(
             });
         };
         if let Err(rank) = standing {
-            table.currencies = tables::inserted(table.currencies, rank, terms.currency);
+            table.currencies.insert(rank, terms.currency);
         }
-        table.rows[table.count] = security_of(row, class);
-        table.codes[table.count] = terms.number;
-        money[table.count] = terms.currency;
+        table.rows.push(security_of(row, class));
+        table.codes[count] = terms.number;
+        money.push(terms.currency);
         last = Some(terms.number);
-        table.count += 1;
         at = next;
     }
-    let currencies = table.currencies;
-    with_ranks(&mut table.rows, &money[..table.count], &currencies);
+    with_ranks(
+        table.rows.as_mut_slice(),
+        money.as_slice(),
+        table.currencies.as_slice(),
+    );
     Ok((table, at))
 }

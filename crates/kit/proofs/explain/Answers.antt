@@ -1,9 +1,9 @@
 -- `kit::explain` meets its contract: each way out gives the number and the buffer of the paper's explainer.
-use Prim.Native.Nat.{ℕ, ◌+◌, ◌*◌, ◌≤◌}
+use Prim.Native.Nat.{ℕ, ◌≤◌}
 use native.Mathlib.Omega.{arith}
 use mathlib.Core.Bool.{true, false}
-use mathlib.Core.Path.{◌≡◌, sym, ap, ap₂, ◌∙◌, subst, subst⁻¹}
-use borrow.Author.Tests.{not-true, not-false}
+use mathlib.Core.Path.{◌≡◌, sym, ap, ◌∙◌, subst, subst⁻¹}
+use Rattle.std.proofs.Common.{is_some}
 use lib.ListN.{length}
 use Rattle.paper.specs.Units.{Text, Class}
 use Rattle.paper.specs.Rows as paper
@@ -13,18 +13,17 @@ use Rattle.paper.specs.Answer.{Answer, tables_of, has_both, ask_rules, explainer
 use Rattle.paper.proofs.Lengths.{explanation_fits}
 use Rattle.paper.proofs.Reasons.{explainer_answer}
 use Rattle.sheet.specs.Whole.{held_sheet}
+use Rattle.std.proofs.lemmas.Result.{err_from_is_err_and}
 use Rattle.answers.specs.Refusals.{number_of}
 use Rattle.answers.specs.declared.Refused.{Refused}
 use Rattle.std.proofs.Common.{Result, Ok, Err, Option, Some, None}
 use Rattle.kit.specs.Numbers.{number_given}
 use Rattle.tables.specs.Held.{held_tables}
-use Rattle.tables.specs.Back.{ranged}
 use Rattle.tables.specs.declared.Tables.{Tables}
 use Rattle.lines.specs.Written.{Place, Wrote}
 use Rattle.reasons.specs.Texts.{asked_of, reason_text, Explainable}
-use Rattle.reasons.specs.declared.Question.{Question}
 use Rattle.reasons.proofs.Paper.{askable, asked_there, asked_stands, explainable_held, text_held}
-use Rattle.kit.proofs.Answers.{Stopped, stopped, Accepted, is_accepted, hands_back}
+use Rattle.kit.proofs.Answers.{stopped, Accepted, is_accepted, hands_back}
 use Rattle.kit.proofs.explain.Goals as goal
 
 -- What was read of a sheet, for a lent buffer and a question
@@ -45,51 +44,81 @@ module _ (sheet buffer currency : Text) (class : Class) {read : Result Tables Re
     abbrev tables : paper.Tables
     tables = accepts.paper
 
-    can_ask : (known.securities.currencies.count ≤ 8) × (known.classes.count ≤ 40) × (ranged known.classes ≡ true)
+    -- What asking requires
+    can_ask : (known.securities.currencies.count ≤ 8) × (known.classes.count ≤ 40)
     can_ask =
-        subst⁻¹ (λ (t : Tables). (t.securities.currencies.count ≤ 8) × (t.classes.count ≤ 40) × (ranged t.classes ≡ true)) accepts.held
+        subst⁻¹ (λ (t : Tables). (t.securities.currencies.count ≤ 8) × (t.classes.count ≤ 40)) accepts.held
         (askable tables accepts.admitted)
 
-    module _ (asked : Question) (asked_is : asked ≡ asked_of known currency class) where
+    module _ {asked : Option ℕ} (asked_is : asked ≡ asked_of known currency class) where
       -- What is found is what the paper's tables have
-      found_is : asked ≡ asked_of (held_tables tables) currency class
-      found_is = asked_is ∙ ap (λ (t : Tables). asked_of t currency class) accepts.held
+      found_is : asked_of (held_tables tables) currency class ≡ asked
+      found_is = sym (asked_is ∙ ap (λ (t : Tables). asked_of t currency class) accepts.held)
 
       -- Both are there exactly where the sheet has them
-      there_is : asked.there ≡ has_both tables currency class
-      there_is = ap (λ (q : Question). q.there) found_is ∙ asked_there tables accepts.admitted currency class
+      there_is : is_some asked ≡ has_both tables currency class
+      there_is = ap is_some (sym found_is) ∙ asked_there tables accepts.admitted currency class
 
-      lacks : asked.there ≡ false → ◌≡◌ {A = ℕ × Text} (851_968, buffer) (explainer currency class sheet buffer)
+      lacks : asked ≡ None → ◌≡◌ {A = ℕ × Text} (851_968, buffer) (explainer currency class sheet buffer)
       lacks e =
-          let none : has_both tables currency class ≡ false = sym there_is ∙ e in
+          let none : has_both tables currency class ≡ false = sym there_is ∙ ap is_some e in
           sym (explainer_answer currency class sheet buffer (refused 13 0) (accepts.answers next ∙ rw (none, judged)))
 
       -- The sheet has both
-      module _ (there : asked.there ≡ true) where
+      module _ {rank : ℕ} (there : asked ≡ Some rank) where
         both : has_both tables currency class ≡ true
-        both = sym there_is ∙ there
+        both = sym there_is ∙ ap is_some there
+
+        stands : asked_of (held_tables tables) currency class ≡ Some rank
+        stands = found_is ∙ there
 
         -- The text is the explanation's
-        text_is : reason_text known asked.rank class ≡ explanation_text (explanation_of tables currency class)
+        text_is : reason_text known rank class ≡ explanation_text (explanation_of tables currency class)
         text_is =
-            let rank = (asked_of (held_tables tables) currency class).rank in
-            ap₂ (λ (t : Tables) (q : Question). reason_text t q.rank class) accepts.held found_is
-            ∙ text_held tables accepts.admitted rank currency (asked_stands tables accepts.admitted currency class both) class
+            ap (λ (t : Tables). reason_text t rank class) accepts.held
+            ∙ text_held tables accepts.admitted rank currency (asked_stands tables accepts.admitted currency class stands) class
 
         -- It can be written
-        explainable : Explainable known asked.rank class
+        explainable : Explainable known rank class
         explainable =
-            subst⁻¹ (λ (t : Tables). Explainable t asked.rank class) accepts.held
-            (subst⁻¹ (λ (q : Question). Explainable (held_tables tables) q.rank class) found_is
-            (explainable_held tables accepts.admitted currency class both))
+            subst⁻¹ (λ (t : Tables). Explainable t rank class) accepts.held (explainable_held tables accepts.admitted currency class stands)
 
-        room : length (reason_text known asked.rank class) ≤ length buffer
+        room : length (reason_text known rank class) ≤ length buffer
         room = omega (arith, ap length text_is, explanation_fits tables accepts.admitted currency class, accepts.roomy)
 
-        answers : (written : Place) (after : Text) → Wrote (reason_text known asked.rank class) 0 buffer written after
+        answers : (written : Place) (after : Text) → Wrote (reason_text known rank class) 0 buffer written after
             → ◌≡◌ {A = ℕ × Text} (written, after) (explainer currency class sheet buffer)
         answers written after w =
             let text = explanation_text (explanation_of tables currency class) in
             hands_back text buffer (subst (λ (t : Text). Wrote t 0 buffer written after) text_is w)
             ∙ sym (explainer_answer currency class sheet buffer (accepted text) (accepts.answers next ∙ rw (both, judged)))
 
+pub returns-in_err-tables-clause-answer : goal.returns-in_err-tables-clause-answer
+returns-in_err-tables-clause-answer c =
+    let (f, same, is) = err_from_is_err_and c.from_residual.result c.from_residual.ensures.1 in
+    rw (same, is) (refuses c.args.sheet.now c.args.report.now c.args.currency.now c.args.class c.read_sheet.ensures c.in_err-tables.was)
+
+pub returns-in_err-tables-clause-small : goal.returns-in_err-tables-clause-small
+returns-in_err-tables-clause-small c =
+    let (f, same, is) = err_from_is_err_and c.from_residual.result c.from_residual.ensures.1 in
+    rw (same, is) ((stopped (length c.args.report.now) c.args.sheet.now c.read_sheet.ensures c.in_err-tables.was).small.1)
+
+pub asked-requires : goal.asked-requires
+asked-requires c = can_ask c.args.sheet.now c.args.report.now c.args.currency.now c.args.class c.read_sheet.ensures c.in_ok-tables.was
+
+pub returns-in_default-clause-answer : goal.returns-in_default-clause-answer
+returns-in_default-clause-answer c =
+    lacks c.args.sheet.now c.args.report.now c.args.currency.now c.args.class c.read_sheet.ensures c.in_ok-tables.was c.asked.ensures c.in_default.is
+
+pub write-requires-clause-explainable : goal.write-requires-clause-explainable
+write-requires-clause-explainable c =
+    explainable c.args.sheet.now c.args.report.now c.args.currency.now c.args.class c.read_sheet.ensures c.in_ok-tables.was c.asked.ensures c.in-Some.is
+
+pub write-requires-clause-room : goal.write-requires-clause-room
+write-requires-clause-room c =
+    room c.args.sheet.now c.args.report.now c.args.currency.now c.args.class c.read_sheet.ensures c.in_ok-tables.was c.asked.ensures c.in-Some.is
+
+pub returns-clause-answer : goal.returns-clause-answer
+returns-clause-answer c =
+    answers c.args.sheet.now c.args.report.now c.args.currency.now c.args.class c.read_sheet.ensures c.in_ok-tables.was c.asked.ensures c.in-Some.is
+    c.write.result c.write.new.report c.write.ensures

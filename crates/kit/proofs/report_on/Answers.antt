@@ -1,5 +1,5 @@
 -- `kit::report_on` meets its contract: each way out gives the number and the buffer of the paper's kit.
-use Prim.Native.Nat.{ℕ, ◌+◌, ◌*◌, ◌≤◌}
+use Prim.Native.Nat.{ℕ, ◌≤◌}
 use native.Mathlib.Omega.{arith}
 use mathlib.Core.Path.{◌≡◌, sym, ap, ap₂, ◌∙◌, subst, subst⁻¹}
 use lib.ListN.{length}
@@ -11,11 +11,11 @@ use Rattle.paper.specs.Answer.{Answer, tables_of, kit}
 use Rattle.paper.proofs.Lengths.{report_fits}
 use Rattle.paper.proofs.Demands.{gives_answer}
 use Rattle.sheet.specs.Whole.{held_sheet}
+use Rattle.std.proofs.lemmas.Result.{err_from_is_err_and}
 use Rattle.answers.specs.Refusals.{number_of}
 use Rattle.answers.specs.declared.Refused.{Refused}
 use Rattle.std.proofs.Common.{Result, Ok, Err}
 use Rattle.kit.specs.Numbers.{number_given}
-use Rattle.tables.specs.Held.{held_tables}
 use Rattle.tables.specs.declared.Tables.{Tables}
 use Rattle.margin.specs.Figures.{TablesRanged, figures_of}
 use Rattle.margin.specs.declared.Figures.{Figures}
@@ -24,7 +24,7 @@ use Rattle.margin.proofs.Paper.{figures_held, tables_ranged}
 use Rattle.lines.specs.Written.{Place, Wrote}
 use Rattle.report.specs.Texts.{Writable, report_text}
 use Rattle.report.proofs.Paper.{text_held, writable_held}
-use Rattle.kit.proofs.Answers.{Stopped, stopped, Accepted, is_accepted, hands_back}
+use Rattle.kit.proofs.Answers.{stopped, Accepted, is_accepted, hands_back}
 use Rattle.kit.proofs.report_on.Goals as goal
 
 -- What was read of a sheet, for a lent buffer and the K lines that are asked for
@@ -54,10 +54,8 @@ module _ (sheet buffer : Text) (listing : Listing) {read : Result Tables Refused
       text_is = ap₂ (report_text listing) accepts.held figures_are ∙ text_held accepts.paper accepts.admitted listing
 
       -- It can be written
-      writable : Writable tables figures
-      writable =
-          subst⁻¹ (λ (t : Tables). Writable t figures) accepts.held
-          (subst⁻¹ (Writable (held_tables accepts.paper)) figures_are (writable_held accepts.paper accepts.admitted))
+      writable : Writable tables
+      writable = subst⁻¹ Writable accepts.held (writable_held accepts.paper accepts.admitted)
 
       room : length (report_text listing tables figures) ≤ length buffer
       room = omega (arith, ap length text_is, report_fits listing accepts.paper accepts.admitted, accepts.roomy)
@@ -68,3 +66,28 @@ module _ (sheet buffer : Text) (listing : Listing) {read : Result Tables Refused
           hands_back (report_of listing accepts.paper) buffer (subst (λ (t : Text). Wrote t 0 buffer written after) text_is w)
           ∙ sym (gives_answer listing sheet buffer (accepted (report_of listing accepts.paper)) (accepts.answers next))
 
+pub returns-in_err-tables-clause-answer : goal.returns-in_err-tables-clause-answer
+returns-in_err-tables-clause-answer c =
+    let (f, same, is) = err_from_is_err_and c.from_residual.result c.from_residual.ensures.1 in
+    rw (same, is) (refuses c.args.sheet.now c.args.report.now c.args.all c.read_sheet.ensures c.in_err-tables.was)
+
+pub returns-in_err-tables-clause-small : goal.returns-in_err-tables-clause-small
+returns-in_err-tables-clause-small c =
+    let (f, same, is) = err_from_is_err_and c.from_residual.result c.from_residual.ensures.1 in
+    rw (same, is) ((stopped (length c.args.report.now) c.args.sheet.now c.read_sheet.ensures c.in_err-tables.was).small.1)
+
+pub figures_of-figures-requires : goal.figures_of-figures-requires
+figures_of-figures-requires c = ranged c.args.sheet.now c.args.report.now c.args.all c.read_sheet.ensures c.in_ok-tables.was
+
+pub write-requires-clause-writable : goal.write-requires-clause-writable
+write-requires-clause-writable c =
+    writable c.args.sheet.now c.args.report.now c.args.all c.read_sheet.ensures c.in_ok-tables.was c.figures_of-figures.result c.figures_of-figures.ensures
+
+pub write-requires-clause-room : goal.write-requires-clause-room
+write-requires-clause-room c =
+    room c.args.sheet.now c.args.report.now c.args.all c.read_sheet.ensures c.in_ok-tables.was c.figures_of-figures.result c.figures_of-figures.ensures
+
+pub returns-clause-answer : goal.returns-clause-answer
+returns-clause-answer c =
+    answers c.args.sheet.now c.args.report.now c.args.all c.read_sheet.ensures c.in_ok-tables.was c.figures_of-figures.result c.figures_of-figures.ensures
+    c.write.result c.write.new.report c.write.ensures

@@ -1,6 +1,19 @@
 -- `margin::opening_of` meets its contract: the trades summed, the positions opened, and of those the ones of the currency.
-use Rattle.margin.proofs.Values.{opens}
+use Rattle.margin.proofs.Positions.{opens, opened_small}
 use Rattle.margin.proofs.opening_of.Goals as goal
 
 pub openings_of-openings-requires : goal.openings_of-openings-requires
-openings_of-openings-requires c = opens c.args.tables.now c.requires.0 c.sums_of.ensures
+openings_of-openings-requires c =
+    opens c.args.tables.now c.requires.0 c.as_slice-trades.ensures.value c.as_slice-securities.ensures.value c.as_slice-trades.ensures.fits
+    c.as_slice-securities.ensures.fits
+    c.sums_of.ensures
+
+pub returns-clause-amounts : goal.returns-clause-amounts
+returns-clause-amounts c =
+    opened_small c.args.tables.now c.requires.0 c.as_slice-trades.ensures.value c.as_slice-securities.ensures.value c.as_slice-trades.ensures.fits
+    c.as_slice-securities.ensures.fits
+    c.sums_of.ensures
+    c.openings_of-openings.ensures
+    c.args.rank
+    c.requires.1
+    _

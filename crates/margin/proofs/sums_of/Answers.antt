@@ -9,7 +9,7 @@ use lib.Seq.{drop-length}
 use mir.Syntax.{w64}
 use mir.Val.{to_z, of_z}
 use Rattle.paper.specs.Lists.{Each}
-use Rattle.paper.specs.Bounds.{most_worth, most_mark, most_net_cents, most_mark_sum}
+use Rattle.paper.specs.Bounds.{most_mark, most_net_cents, most_mark_sum}
 use Rattle.paper.proofs.Lists.{each_at}
 use Rattle.whole.proofs.Signs.{read_back}
 use Rattle.tables.specs.Held.{no_trade}
@@ -23,52 +23,38 @@ use Rattle.margin.proofs.Values.{worths_most, totals_most}
 use Rattle.margin.proofs.Gathered.{gathered_length, gathered_more}
 use Rattle.margin.proofs.sums_of.Goals as goal
 
-module _ (trades : List Trade) (ss : List Security) (most : length trades ≤ 500) (each : Each (Placed ss) trades) (i : ℕ) where
-  -- The trades that the sums so far are of
-  abbrev rest : List Trade
-  rest = drop i trades
+-- A figure of a trade, in cents, that is within the table of bounds
+module _ (figure : Valued → ℤ) {v w : Valued} (e : v ≡ w) (small : nat_abs (figure w) ≤ most_mark) where
+  -- It is read from a local as it is
+  figure_is : to_z w64 (of_z w64 (figure v)) ≡ figure w
+  figure_is = read_back (figure w) (ap figure e) (omega (arith, small))
 
-  few : length rest ≤ 500
-  few = omega (arith, length-drop i trades)
+  -- It can be added to a sum that is there and within the table too
+  figure_adds : {sums so_far : List ℤ} → sums ≡ so_far → (place : ℕ) → place < length so_far → nat_abs (get_or so_far place (pos 0)) ≤ most_mark_sum
+      → (place < length sums) × (nat_abs (to_z w64 (of_z w64 (figure v))) + nat_abs (get_or sums place (pos 0)) < 2 ^ 63)
+  figure_adds s place there low = rw (s, figure_is) (there, omega (arith, small, low))
 
-  -- The sums so far have their places and are within the table of bounds, in size: cents
-  worths_fit : {worths : List ℤ} → worths ≡ (sums_of ss rest).worths → (length worths ≡ 200) × ((k : ℕ) → nat_abs (get_or worths k (pos 0)) ≤ most_net_cents)
-  worths_fit e = rw e (gathered_length ◌+ℤ◌ (pos 0) 200 _ _ rest, worths_most ss few (each_drop i each))
+module _ (ss : List Security) {ts : List Trade} (most : length ts ≤ 500) (each : Each (Placed ss) ts) (i : ℕ) where
+  few : length (drop i ts) ≤ 500
+  few = omega (arith, length-drop i ts)
 
-  totals_fit : {totals : List ℤ} → totals ≡ (sums_of ss rest).totals → (length totals ≡ 8) × ((k : ℕ) → nat_abs (get_or totals k (pos 0)) ≤ most_mark_sum)
-  totals_fit e = rw e (gathered_length ◌+ℤ◌ (pos 0) 8 _ _ rest, totals_most ss few (each_drop i each))
+  -- The sums of the trades from one on have their places and are within the table of bounds, in size: cents
+  worths_fit : (k : ℕ) → (length (sums_of ss (drop i ts)).worths ≡ 200) × (nat_abs (get_or (sums_of ss (drop i ts)).worths k (pos 0)) ≤ most_net_cents)
+  worths_fit k = (gathered_length ◌+ℤ◌ (pos 0) 200 _ _ (drop i ts), worths_most ss few (each_drop i each) k)
 
-  module _ (low : 0 < i) (high : i ≤ length trades) where
+  totals_fit : (k : ℕ) → (length (sums_of ss (drop i ts)).totals ≡ 8) × (nat_abs (get_or (sums_of ss (drop i ts)).totals k (pos 0)) ≤ most_mark_sum)
+  totals_fit k = (gathered_length ◌+ℤ◌ (pos 0) 8 _ _ (drop i ts), totals_most ss few (each_drop i each) k)
+
+  module _ (low : 0 < i) (high : i ≤ length ts) where
     -- The trade of a turn has its security and currency in their places
-    abbrev trade : Trade
-    trade = get_or trades (i - 1) no_trade
-
-    placed : Placed ss trade
+    placed : Placed ss (get_or ts (i - 1) no_trade)
     placed = each_at (i - 1) no_trade each (omega arith)
 
-    -- Its figures are within the table of bounds, so that a local holds them: cents
-    within : (nat_abs (value_in ss trade).worth ≤ most_worth) × (nat_abs (value_in ss trade).mark ≤ most_mark)
-    within = value_within trade (security_in ss trade) placed.ranged
-
-    worth_is : {v : Valued} → v ≡ value_in ss trade → to_z w64 (of_z w64 v.worth) ≡ (value_in ss trade).worth
-    worth_is e = read_back (value_in ss trade).worth (ap (λ (v : Valued). v.worth) e) (omega (arith, within.0))
-
-    mark_is : {v : Valued} → v ≡ value_in ss trade → to_z w64 (of_z w64 v.mark) ≡ (value_in ss trade).mark
-    mark_is e = read_back (value_in ss trade).mark (ap (λ (v : Valued). v.mark) e) (omega (arith, within.1))
-
-    -- They can be added to the sums so far
-    worth_adds : {v : Valued} {worths : List ℤ} → v ≡ value_in ss trade → worths ≡ (sums_of ss rest).worths
-        → (trade.security < length worths) × (nat_abs (to_z w64 (of_z w64 v.worth)) + nat_abs (get_or worths trade.security (pos 0)) < 2 ^ 63)
-    worth_adds e s =
-        let (size, small) = worths_fit s in
-        (omega (arith, placed.security), omega (arith, ap nat_abs (worth_is e), within.0, small trade.security))
-
-    mark_adds : {v : Valued} {totals : List ℤ} → v ≡ value_in ss trade → totals ≡ (sums_of ss rest).totals
-        → let place = (security_in ss trade).currency in
-        (place < length totals) × (nat_abs (to_z w64 (of_z w64 v.mark)) + nat_abs (get_or totals place (pos 0)) < 2 ^ 63)
-    mark_adds e s =
-        let (size, small) = totals_fit s in
-        (omega (arith, placed.currency), omega (arith, ap nat_abs (mark_is e), within.1, small (security_in ss trade).currency))
+    -- Its figures are within the table of bounds: cents
+    within : let v = value_in ss (get_or ts (i - 1) no_trade) in (nat_abs v.worth ≤ most_mark) × (nat_abs v.mark ≤ most_mark)
+    within =
+        let both = value_within (get_or ts (i - 1) no_trade) (security_in ss (get_or ts (i - 1) no_trade)) placed.ranged in
+        (omega (arith, both.0), both.1)
 
 pub loop-i-init : goal.loop-i-init
 loop-i-init c =
@@ -80,22 +66,28 @@ loop-i-init c =
     }
 
 pub bounds-securities-place : goal.bounds-securities-place
-bounds-securities-place c = (each_at (c.loop-i.i - 1) no_trade c.requires.1 (omega arith)).security
+bounds-securities-place c = (placed c.args.securities.now c.requires.0 c.requires.2 c.loop-i.i c.loop-i-test.true c.loop-i.auto.i).security
 
 pub value_of-valued-requires : goal.value_of-valued-requires
-value_of-valued-requires c = (each_at (c.loop-i.i - 1) no_trade c.requires.1 (omega arith)).ranged
+value_of-valued-requires c = (placed c.args.securities.now c.requires.0 c.requires.2 c.loop-i.i c.loop-i-test.true c.loop-i.auto.i).ranged
 
 pub add_to-requires : goal.add_to-requires
 add_to-requires c =
-    worth_adds c.args.trades.now c.args.securities.now c.requires.0 c.requires.1 c.loop-i.i c.loop-i-test.true c.loop-i.auto.i
-    c.value_of-valued.ensures
-    c.loop-i.invariant.worths
+    let ss = c.args.securities.now in
+    let l = c.loop-i in
+    let own = placed ss c.requires.0 c.requires.2 l.i c.loop-i-test.true l.auto.i in
+    let small = within ss c.requires.0 c.requires.2 l.i c.loop-i-test.true l.auto.i in
+    let fit = worths_fit ss c.requires.0 c.requires.2 l.i (get_or c.args.trades.now (l.i - 1) no_trade).security in
+    figure_adds (λ v. v.worth) c.value_of-valued.ensures small.0 l.invariant.worths _ (omega (arith, own.security, fit.0, c.requires.1)) (omega (arith, fit.1))
 
 pub add_to-requires-in-loop-i : goal.add_to-requires-in-loop-i
 add_to-requires-in-loop-i c =
-    mark_adds c.args.trades.now c.args.securities.now c.requires.0 c.requires.1 c.loop-i.i c.loop-i-test.true c.loop-i.auto.i
-    c.value_of-valued.ensures
-    c.loop-i.invariant.totals
+    let ss = c.args.securities.now in
+    let l = c.loop-i in
+    let own = placed ss c.requires.0 c.requires.2 l.i c.loop-i-test.true l.auto.i in
+    let small = within ss c.requires.0 c.requires.2 l.i c.loop-i-test.true l.auto.i in
+    let fit = totals_fit ss c.requires.0 c.requires.2 l.i (security_in ss (get_or c.args.trades.now (l.i - 1) no_trade)).currency in
+    figure_adds (λ v. v.mark) c.value_of-valued.ensures small.1 l.invariant.totals _ (omega (arith, own.currency, fit.0)) (omega (arith, fit.1))
 
 pub loop-i-preserved : goal.loop-i-preserved
 loop-i-preserved c =
@@ -104,8 +96,9 @@ loop-i-preserved c =
     let l = c.loop-i in
     let low = c.loop-i-test.true in
     let own = get_or ts (l.i - 1) no_trade in
-    let worth = worth_is ts ss c.requires.0 c.requires.1 l.i low l.auto.i c.value_of-valued.ensures in
-    let mark = mark_is ts ss c.requires.0 c.requires.1 l.i low l.auto.i c.value_of-valued.ensures in
+    let small = within ss c.requires.0 c.requires.2 l.i low l.auto.i in
+    let worth = figure_is (λ v. v.worth) c.value_of-valued.ensures small.0 in
+    let mark = figure_is (λ v. v.mark) c.value_of-valued.ensures small.1 in
     let front = drop_before ts l.i no_trade low l.auto.i in
     record {
       marks = made_more (λ t. (value_in ss t).mark) ts no_trade 500 (pos 0) c.requires.0 l.i l.sums.marks _ l.invariant.marks low l.auto.i mark;

@@ -5,7 +5,7 @@ use native.Mathlib.Omega.{arith}
 use mathlib.Core.List.{List}
 use mathlib.Core.Logic.{◌⊎◌, ⊎_elim}
 use mathlib.Core.Path.{◌≡◌, sym, ap, ◌∙◌}
-use lib.ListN.{get_or, take, length-take}
+use lib.ListN.{get_or}
 use lib.Seq.{take_all}
 use Rattle.std.proofs.Common.{Result, Ok, Err}
 use Rattle.tables.specs.Held.{no_security}
@@ -23,22 +23,19 @@ either = ⊎_elim (λ e. ap rank_of (sym e)) (λ e. ap rank_of (sym e))
 pub overflow_cast-rows : goal.overflow_cast-rows
 overflow_cast-rows c =
     let a = c.args in
-    let own = get_or a.money.now c.loop-i.i 0 in
-    let all = take a.currencies.now.count a.currencies.now.numbers in
     let rank : c.match-ranked.rank ≡ rank_of c.ranked.result =
     elim c.match-ranked.branch [ in-Ok w ↦ w.rank-is ∙ either w.in-Ok.is | in-Ok-2 w ↦ w.rank-is ∙ either w.in-Ok.is ] in
-    omega (arith, rank, ap rank_of c.ranked.ensures, rank_most own all, length-take a.currencies.now.count a.currencies.now.numbers)
+    omega (arith, rank, ap rank_of c.ranked.ensures, rank_most (get_or a.money.now c.loop-i.i 0) a.currencies.now)
 
 pub loop-i-preserved : goal.loop-i-preserved
 loop-i-preserved c =
     let a = c.args in
     let rank : c.match-ranked.rank ≡ rank_of c.ranked.result =
     elim c.match-ranked.branch [ in-Ok w ↦ w.rank-is ∙ either w.in-Ok.is | in-Ok-2 w ↦ w.rank-is ∙ either w.in-Ok.is ] in
-    let row = over_more (ranked_security (take a.currencies.now.count a.currencies.now.numbers)) a.money.now a.rows.now c.loop-i.i 0 no_security (omega arith) (omega arith) in
+    let row = over_more (ranked_security a.currencies.now) a.money.now a.rows.now c.loop-i.i 0 no_security (omega arith) (omega arith) in
     rw (rank, c.ranked.ensures, c.loop-i.invariant, add-one c.loop-i.i) row
 
 pub returns : goal.returns
 returns c =
     let a = c.args in
-    c.loop-i.invariant
-    ∙ ap (λ (ms : List ℕ). with_rank (take a.currencies.now.count a.currencies.now.numbers) ms a.rows.now) (take_all c.loop-i.i a.money.now (omega arith))
+    c.loop-i.invariant ∙ ap (λ (ms : List ℕ). with_rank a.currencies.now ms a.rows.now) (take_all c.loop-i.i a.money.now (omega arith))
