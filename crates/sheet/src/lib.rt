@@ -20,35 +20,15 @@ fn tables_from(s: &[u8], from: Place, end: Place, today: Day) -> Result<Tables, 
     requires { (length s.now ≤ 65_536) × (from ≤ end) × (end ≡ ended_length s.now) × (today < 146_097) }
     ensures { (date : Date) → today ≡ day date → result ≡ held_sheet (read_tables date (3, lines (drop from s.now))) }
 {
-    let (classes, behind_classes) = classes::class_section(s, from, end, 3)?;
+    let (classes, next) = classes::class_section(s, from, end, 3)?;
     let first = 3 + classes.len() as u32; // line of the O rows
-    let (priorities, behind_priorities) = priorities::priority_section(
-        s,
-        behind_classes,
-        end,
-        &classes,
-        first,
-    )?;
+    let (priorities, next) = priorities::priority_section(s, next, end, &classes, first)?;
     let second = first + priorities.len() as u32; // line of the S rows
-    let (securities, behind_securities) = securities::security_section(
-        s,
-        behind_priorities,
-        end,
-        &classes,
-        second,
-    )?;
+    let (securities, next) = securities::security_section(s, next, end, &classes, second)?;
     let third = second + securities.rows.len() as u32; // line of the T rows
     let working = days::working_after(today);
-    let (trades, behind) = trades::trade_section(
-        s,
-        behind_securities,
-        end,
-        today,
-        working,
-        &securities,
-        third,
-    )?;
-    if behind != s.len() {
+    let (trades, next) = trades::trade_section(s, next, end, today, working, &securities, third)?;
+    if next != s.len() {
         return Err(Refused {
             refusal: Refusal::Row,
             line: third as u64 + trades.len() as u64,

@@ -77,7 +77,7 @@ module _ (s : Text) (from end : Place) (today : Day)
       c_kept = (opened (at_classes 0) class_staged class_table c c_is classes next_c c_goes).down
 
       c_many : n ≡ length cs
-      c_many = n_is ∙ ap (λ (t : ArrayVec held_ClassRow.ClassRow). array_vec_len t) known ∙ length-map _ cs
+      c_many = n_is ∙ ap (λ (t : ArrayVec held_ClassRow.ClassRow). array_vec_len t) known ∙ length-map cs _
 
       c_few : n ≤ 40
       c_few = omega (arith, c_many, classes_at_most cs c_kept)
@@ -121,7 +121,7 @@ module _ (s : Text) (from end : Place) (today : Day)
           listed = (opened (at_priorities 0) (priority_staged cs) priority_table o o_paper priorities next_o o_goes).is
 
           o_many : m ≡ length os
-          o_many = m_is ∙ ap (λ (t : ArrayVec held_PriorityRow.PriorityRow). array_vec_len t) listed ∙ length-map _ os
+          o_many = m_is ∙ ap (λ (t : ArrayVec held_PriorityRow.PriorityRow). array_vec_len t) listed ∙ length-map os _
 
           o_few : m ≤ 200
           o_few =
@@ -167,7 +167,7 @@ module _ (s : Text) (from end : Place) (today : Day)
               b_kept = (opened (at_securities 0) (security_staged cs) (security_table cs) b b_paper bonds next_b b_goes).down
 
               b_many : k ≡ length ss
-              b_many = k_is ∙ ap (λ (t : Securities). array_vec_len t.rows) held ∙ length-map _ ss
+              b_many = k_is ∙ ap (λ (t : Securities). array_vec_len t.rows) held ∙ length-map ss _
 
               b_few : k ≤ 200
               b_few = omega (arith, b_many, securities_at_most cs ss b_kept)
@@ -210,7 +210,7 @@ module _ (s : Text) (from end : Place) (today : Day)
                     let there : Standing kind (λ x. accepted x) s next_b third (section kind (third, lines (drop next_b s)) >>= λ x. accepted x) =
                     record { within = (at_trades 0).within; goes = refl } in
                     let o = opened there (trade_staged today (period_of ss)) (trade_table today (codes_of ss)) t t_periods trades behind e in
-                    omega (arith, ap (λ (t : ArrayVec held_Trade.Trade). array_vec_len t) o.is, length-map (held_trade today (codes_of ss)) (rows_in (whole kind s next_b third)), trades_at_most today (period_of ss) _ o.down)
+                    omega (arith, ap (λ (t : ArrayVec held_Trade.Trade). array_vec_len t) o.is, length-map (rows_in (whole kind s next_b third)) (held_trade today (codes_of ss)), trades_at_most today (period_of ss) _ o.down)
 
                 module _ (d : Date) (on : today ≡ day d) where
                   abbrev ts : List paper.TradeRow
@@ -234,7 +234,7 @@ module _ (s : Text) (from end : Place) (today : Day)
                     goes_further : (behind ≡ length s → ⊥) → Err (record { refusal = refusal 5; line = third + j }) ≡ held_sheet (reading d)
                     goes_further n =
                         let p = opened (at_trades d) (trade_staged (day d) (period_of ss)) its_table t t_paper trades behind t_goes in
-                        ap (λ (k : ℕ). held_sheet (refused 5 (third + k))) (j_is ∙ ap (λ (t : ArrayVec held_Trade.Trade). array_vec_len t) booked ∙ length-map _ ts)
+                        ap (λ (k : ℕ). held_sheet (refused 5 (third + k))) (j_is ∙ ap (λ (t : ArrayVec held_Trade.Trade). array_vec_len t) booked ∙ length-map ts _)
                         ∙ ap held_sheet (sym (p.goes ∙ ended_early _ _ behind _ p.within n))
 
                     ends : behind ≡ length s
@@ -353,16 +353,17 @@ overflow_add-result c =
       t_few c.args.s.now c.args.from c.args.end c.args.today c.requires c.class_section.ensures c.in_ok-classes.was c.len.ensures.value
           c.priority_section.ensures c.in_ok-priorities.was c.len-2.ensures.value c.security_section.ensures c.in_ok-securities.was c.len-3.ensures.value
           c.trade_section.ensures c.in_ok-trades.was,
+      c.len-then-next-s.ensures.value,
     )
 
-pub returns-then-behind-s : goal.returns-then-behind-s
-returns-then-behind-s c d on =
+pub returns-then-next-s : goal.returns-then-next-s
+returns-then-next-s c d on =
     goes_further c.args.s.now c.args.from c.args.end c.args.today c.requires c.class_section.ensures c.in_ok-classes.was c.len.ensures.value
     c.priority_section.ensures c.in_ok-priorities.was c.len-2.ensures.value c.security_section.ensures c.in_ok-securities.was c.len-3.ensures.value
-    c.trade_section.ensures d on c.in_ok-trades.was c.len-4.ensures.value c.if-behind-s.true
+    c.trade_section.ensures d on c.in_ok-trades.was c.len-then-next-s.ensures.value c.if-next-s.true
 
 pub returns : goal.returns
 returns c d on =
     ends c.args.s.now c.args.from c.args.end c.args.today c.requires c.class_section.ensures c.in_ok-classes.was c.len.ensures.value
     c.priority_section.ensures c.in_ok-priorities.was c.len-2.ensures.value c.security_section.ensures c.in_ok-securities.was c.len-3.ensures.value
-    c.trade_section.ensures d on c.in_ok-trades.was c.len-4.ensures.value c.if-behind-s.false
+    c.trade_section.ensures d on c.in_ok-trades.was refl c.if-next-s.false
