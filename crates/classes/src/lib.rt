@@ -125,7 +125,7 @@ pub fn class_section(
     while sections::goes_on(s, at, end, b'C') {
         let line = first as u64 + table.len() as u64; // of the sheet
         let read = class_row(s, at, end);
-        let Ok((row, next)) = read else {
+        let Ok((row, next)) = read else { // as document 01 names it
             return Err(Refused {
                 refusal: read.unwrap_err(),
                 line,

@@ -35,7 +35,7 @@ struct Terms {
 // An S row.
 #[derive(Clone, Copy)]
 struct SecurityRow {
-    code: Place, // where it stands
+    code: Place, // where it stands: document 01 wants it in the row's answer
     terms: Terms,
     previous: Day, // coupon
     next: Day, // coupon
@@ -143,6 +143,7 @@ fn with_ranks(
     requires { (length money.now ≤ length rows.old) × (length currencies.now ≤ 8) }
     ensures { rows.new ≡ with_rank currencies.now money.now rows.old }
 {
+    // By their index: `rows.iter_mut().zip(money)` was tried, and no invariant can name the rows that it writes.
     for (i, &own) in money.iter().enumerate() {
         let (Ok(rank) | Err(rank)) = tables::ranked(currencies, own);
         rows[i].currency = rank as u32;
@@ -169,7 +170,7 @@ pub fn security_section(
         let count = table.rows.len(); // rows
         let line = first as u64 + count as u64; // of the sheet
         let read = security_row(s, at, end);
-        let Ok((row, next)) = read else {
+        let Ok((row, next)) = read else { // as document 01 names it
             return Err(Refused {
                 refusal: read.unwrap_err(),
                 line,
