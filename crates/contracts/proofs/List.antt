@@ -23,16 +23,9 @@ use Rattle.days.proofs.weekday.Reads as days_weekday
 use Rattle.days.proofs.is_open.Reads as days_is_open
 use Rattle.days.proofs.working_after.Reads as days_working_after
 use Rattle.days.proofs.new_years.Reads as days_new_years
-use Rattle.tables.proofs.no_security.Reads as tables_no_security
-use Rattle.tables.proofs.no_classes.Reads as tables_no_classes
-use Rattle.tables.proofs.no_priorities.Reads as tables_no_priorities
-use Rattle.tables.proofs.no_currencies.Reads as tables_no_currencies
-use Rattle.tables.proofs.no_securities.Reads as tables_no_securities
-use Rattle.tables.proofs.no_trades.Reads as tables_no_trades
-use Rattle.tables.proofs.no_tables.Reads as tables_no_tables
+use Rattle.tables.proofs.Securities.new.Reads as tables_Securities_new
 use Rattle.tables.proofs.find.Reads as tables_find
 use Rattle.tables.proofs.ranked.Reads as tables_ranked
-use Rattle.tables.proofs.inserted.Reads as tables_inserted
 use Rattle.places.proofs.ended.Reads as places_ended
 use Rattle.places.proofs.line_at.Reads as places_line_at
 use Rattle.fields.proofs.number.Reads as fields_number
@@ -139,35 +132,14 @@ days_working_after_fixed κs a x y s u p q = one p q
 pub days_new_years_fixed : FixesSeen days_new_years.Post (λ κs x s. x.now)
 days_new_years_fixed κs a x y s u p q = one p q
 
-pub tables_no_security_fixed : Fixes tables_no_security.Post
-tables_no_security_fixed κs a x y s u p q = one p q
-
-pub tables_no_classes_fixed : Fixes tables_no_classes.Post
-tables_no_classes_fixed κs a x y s u p q = one p q
-
-pub tables_no_priorities_fixed : Fixes tables_no_priorities.Post
-tables_no_priorities_fixed κs a x y s u p q = one p q
-
-pub tables_no_currencies_fixed : Fixes tables_no_currencies.Post
-tables_no_currencies_fixed κs a x y s u p q = one p q
-
-pub tables_no_securities_fixed : Fixes tables_no_securities.Post
-tables_no_securities_fixed κs a x y s u p q = one p q
-
-pub tables_no_trades_fixed : Fixes tables_no_trades.Post
-tables_no_trades_fixed κs a x y s u p q = one p q
-
-pub tables_no_tables_fixed : Fixes tables_no_tables.Post
-tables_no_tables_fixed κs a x y s u p q = one p q
+pub tables_Securities_new_fixed : Fixes tables_Securities_new.Post
+tables_Securities_new_fixed κs a x y s u p q = one p q
 
 pub tables_find_fixed : Fixes tables_find.Post
 tables_find_fixed κs a x y s u p q = one p q
 
 pub tables_ranked_fixed : Fixes tables_ranked.Post
 tables_ranked_fixed κs a x y s u p q = one p q
-
-pub tables_inserted_fixed : Fixes tables_inserted.Post
-tables_inserted_fixed κs a x y s u p q = one p q
 
 pub places_ended_fixed : Fixes places_ended.Post
 places_ended_fixed κs a x y s u p q = one p q
