@@ -1,5 +1,5 @@
 -- Options of the paper, one after the other, as the code has them.
-use Rattle.std.proofs.Common.{◌≡◌, refl, Option, Some, None, option_and_then}
+use Rattle.std.proofs.Common.{◌≡◌, refl, option_and_then}
 use mathlib.Core.Option as paper
 use mathlib.Core.Option.{none, some, map}
 use Rattle.paper.specs.Lists.{◌>>=◌}

@@ -2,7 +2,7 @@
 use Prim.Native.Nat.{ℕ}
 use native.Mathlib.Omega.{arith}
 use mathlib.Core.Bool.{Bool, true, false, ◌&&◌}
-use mathlib.Core.Option.{Option, none, some, map, get_or}
+use mathlib.Core.Option.{Option, some, map, get_or}
 use mathlib.Core.Path.{◌≡◌, refl, ◌∙◌}
 use lib.Dec.{leb, ltb}
 use Rattle.paper.specs.Units.{Text, Fields, Duration}

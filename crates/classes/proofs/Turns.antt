@@ -1,7 +1,6 @@
 -- The C section's room, and how its rows are judged: what is seen is what the rows above tell, and what the code makes of a row is what
 -- the paper makes of it.
 use Prim.Native.Nat.{◌<◌}
-use native.Mathlib.Omega.{arith}
 use mathlib.Core.Bool.{Bool, true, false}
 use mathlib.Core.List.{List, [], ◌∷◌}
 use mathlib.Core.Option as maybe

@@ -1,7 +1,7 @@
 -- `classes::class_row` meets its contract: its line is found, and what its fields give is handed on.
 use native.Mathlib.Omega.{arith}
-use mathlib.Core.Path.{◌≡◌, refl, sym, ap, ◌∙◌}
-use Rattle.std.proofs.Common.{Result, Ok}
+use mathlib.Core.Path.{refl, sym, ap, ◌∙◌}
+use Rattle.std.proofs.Common.{Ok}
 use Rattle.std.proofs.lemmas.Result.{err_from_is_err_and}
 use Rattle.paper.specs.Refusals.{class_kind}
 use Rattle.places.specs.declared.Line.{Line}

@@ -1,14 +1,12 @@
 -- `classes::class_section` meets its contract. The loop's invariant: the table has the rows above, and the section goes on from
 -- `at` with what is seen of them. The measure is the bytes left up to `end`.
 use native.Mathlib.Omega.{arith}
-use mathlib.Core.Path.{◌≡◌, refl, sym, ap₂, ◌∙◌}
+use mathlib.Core.Path.{refl, sym, ap₂}
 use Rattle.tables.specs.declared.ClassRow.{ClassRow}
-use Rattle.tables.proofs.Numbers.{kind_below}
 use Rattle.classes.specs.Seen.{after_of}
 use Rattle.classes.specs.declared.Seen.{Seen}
 use Rattle.sections.proofs.Rooms.{turn_start, judging_refused, judging_row, judging_broken, judging_more, judging_ended}
-use Rattle.classes.proofs.Rising.{border_most}
-use Rattle.classes.proofs.Turns.{room, formed, judge}
+use Rattle.classes.proofs.Turns.{room, judge}
 use Rattle.classes.proofs.class_section.Goals as goal
 
 pub loop-seen-init : goal.loop-seen-init
