@@ -17,7 +17,7 @@ use offsetting::{Book, Whole};
 use tables::{ClassRow, PriorityRow, Security, Tables, Trade};
 use valuation::{Cents, SignedCents};
 
-// The sums of the trades.
+// The sums of the trades. No vectors: a mark or a sum is written where its trade, security or currency stands, from the last trade on.
 #[derive(Drop)]
 struct Sums {
     pub marks: [SignedCents; 500], // of each trade, 0 where it is not margined
@@ -28,7 +28,7 @@ struct Sums {
 // The margins of the classes, and their sum.
 #[derive(Drop)]
 struct Margins {
-    pub each: [Whole; 40],
+    pub each: [Whole; 40], // by the places of the C rows; no vector: written from the last row on
     pub initial: Whole,
 }
 
@@ -43,7 +43,7 @@ pub struct Opening {
 #[derive(Clone, Copy, Default)]
 pub struct Currency {
     pub book: Book, // remaining
-    pub margins: [Whole; 40], // by the places of the C rows
+    pub margins: [Whole; 40], // by the places of the C rows; no vector, as in the margins
     pub mark: SignedCents,
     pub initial: Whole,
     pub total: Cents,
@@ -52,7 +52,7 @@ pub struct Currency {
 // The figures of a sheet.
 #[derive(Drop)]
 pub struct Figures {
-    pub marks: [SignedCents; 500], // of each trade, 0 where it is not margined; no vector: they come from the last trade to the first
+    pub marks: [SignedCents; 500], // of each trade, 0 where it is not margined; no vector, as in the sums
     pub currencies: ArrayVec<Currency, 8>, // rising
 }
 
@@ -78,6 +78,7 @@ fn sums_of(trades: &[Trade], securities: &[Security]) -> Sums
         worths: [0; 200],
         totals: [0; 8],
     };
+    // By index: a mark is written where its trade stands.
     for i in (0..trades.len()).rev() {
         let place = trades[i].security as usize; // among the securities
         let security = securities[place];
@@ -106,6 +107,7 @@ fn openings_of(securities: &[Security], worths: &[SignedCents; 200]) -> [Book; 8
     ensures { result ≡ openings_of (nets_of securities.now worths.now) }
 {
     let mut openings = [Book::default(); 8];
+    // By index: there is room for more worths than securities, and a zip that goes backwards would first make them even.
     for i in (0..securities.len()).rev() {
         let security = securities[i];
         add_net(
@@ -155,6 +157,7 @@ fn margins_of(classes: &[ClassRow], book: &Book) -> Margins
         each: [0; 40],
         initial: 0,
     };
+    // By index: a margin is written where its row stands.
     for i in (0..classes.len()).rev() {
         let margin = margin_of(classes[i], book); // whole units
         margins.each[i] = margin;

@@ -12,7 +12,7 @@ use tables::{Factor, PriorityRow};
 pub type Whole = u64; // whole units
 
 // Positions of the classes in one currency, at the places of their numbers, 0..40.
-#[derive(Clone, Copy)]
+#[derive(Clone, Copy, Default)]
 pub struct Book {
     pub long: [Whole; 41],
     pub short: [Whole; 41],

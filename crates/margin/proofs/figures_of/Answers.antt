@@ -10,26 +10,19 @@ use Rattle.margin.proofs.figures_of.Goals as goal
 
 pub openings_of-openings-requires : goal.openings_of-openings-requires
 openings_of-openings-requires c =
-    opens c.args.tables.now c.requires c.as_slice-trades.ensures.value c.as_slice-securities.ensures.value c.as_slice-trades.ensures.fits
-    c.as_slice-securities.ensures.fits
-    c.sums_of.ensures
+    let trades = c.as_slice-trades.ensures in
+    let securities = c.as_slice-securities.ensures in
+    opens c.args.tables.now c.requires trades.value securities.value trades.fits securities.fits c.sums_of.ensures
 
 pub currency_of-requires-clause-amounts : goal.currency_of-requires-clause-amounts
 currency_of-requires-clause-amounts c =
     let t = c.args.tables.now in
     let rank = c.loop-rank.rank in
-    let low : rank < 8 = omega (arith, c.len-rank-end.ensures.fits) in (
-      book_small t c.requires c.as_slice-trades.ensures.value c.as_slice-securities.ensures.value c.as_slice-trades.ensures.fits
-          c.as_slice-securities.ensures.fits
-          c.sums_of.ensures
-          c.openings_of-openings.ensures
-          rank
-          low
-          _,
-      total_small t c.requires c.as_slice-trades.ensures.value c.as_slice-securities.ensures.value c.as_slice-trades.ensures.fits
-          c.as_slice-securities.ensures.fits
-          c.sums_of.ensures
-          rank,
+    let low : rank < 8 = omega (arith, c.len-rank-end.ensures.fits) in
+    let trades = c.as_slice-trades.ensures in
+    let securities = c.as_slice-securities.ensures in (
+      book_small t c.requires trades.value securities.value trades.fits securities.fits c.sums_of.ensures c.openings_of-openings.ensures rank low _,
+      total_small t c.requires trades.value securities.value trades.fits securities.fits c.sums_of.ensures rank,
     )
 
 pub push-requires : goal.push-requires

@@ -4,16 +4,15 @@ use Rattle.margin.proofs.opening_of.Goals as goal
 
 pub openings_of-openings-requires : goal.openings_of-openings-requires
 openings_of-openings-requires c =
-    opens c.args.tables.now c.requires.0 c.as_slice-trades.ensures.value c.as_slice-securities.ensures.value c.as_slice-trades.ensures.fits
-    c.as_slice-securities.ensures.fits
-    c.sums_of.ensures
+    let trades = c.as_slice-trades.ensures in
+    let securities = c.as_slice-securities.ensures in
+    opens c.args.tables.now c.requires.0 trades.value securities.value trades.fits securities.fits c.sums_of.ensures
 
 pub returns-clause-amounts : goal.returns-clause-amounts
 returns-clause-amounts c =
-    opened_small c.args.tables.now c.requires.0 c.as_slice-trades.ensures.value c.as_slice-securities.ensures.value c.as_slice-trades.ensures.fits
-    c.as_slice-securities.ensures.fits
-    c.sums_of.ensures
-    c.openings_of-openings.ensures
+    let trades = c.as_slice-trades.ensures in
+    let securities = c.as_slice-securities.ensures in
+    opened_small c.args.tables.now c.requires.0 trades.value securities.value trades.fits securities.fits c.sums_of.ensures c.openings_of-openings.ensures
     c.args.rank
     c.requires.1
     _
