@@ -10,6 +10,7 @@ ghost use Rattle.lines.specs.Written.{Wrote, money_text, code_text, mark_line, p
 use std::cmp::Ordering;
 use tables::{Code, Money};
 
+// Handed on beside the buffer: no plainer in a struct that holds both, whose every clause would have to say that it holds the same one.
 pub type Place = usize; // in the report, bytes
 
 // A text as it is.

@@ -1,15 +1,18 @@
 -- A question about admitted tables, and the explanation's text of them, as the code holds them, are the paper's.
-use Prim.Native.Nat.{ℕ, zero, suc, ◌+◌, ◌≤◌, ◌<◌}
+use Prim.Native.Nat.{ℕ, zero, suc, ◌+◌, ◌<◌}
 use native.Mathlib.Omega.{arith}
 use mathlib.Core.Bool.{Bool, true, false, ◌&&◌}
 use mathlib.Core.List.{List, [], ◌∷◌, ◌++◌, map}
-use mathlib.Core.Option.{some}
-use mathlib.Core.Path.{◌≡◌, refl, sym, ap, ap₂, ◌∙◌, subst}
+use mathlib.Core.Option as paper
+use mathlib.Core.Option.{none, some}
+use mathlib.Core.Path.{◌≡◌, refl, sym, ap, ap₂, ◌∙◌, subst, subst⁻¹}
+use Rattle.std.specs.Prelude.{Option, Some, None, is_some, Result, Ok, Err, is_ok}
+use Rattle.std.specs.Bool.{then_some}
 use lib.Dec.{eqb}
-use lib.ListN.{length, get_or, take}
-use lib.Seq.{take_all, take-take}
+use lib.ListN.{length, get_or, take, length-map}
+use lib.Seq.{take_all}
 use Rattle.paper.specs.Units.{Text, Line, Class, Code, Currency, SignedCents}
-use Rattle.paper.specs.Lists.{only, first_that, joined_up}
+use Rattle.paper.specs.Lists.{only, when, first_that, joined_up}
 use Rattle.paper.specs.Rounding.{rounded}
 use Rattle.paper.specs.Text.{same, is_currency}
 use Rattle.paper.specs.Rows.{ClassRow, PriorityRow, SecurityRow, Tables}
@@ -20,22 +23,19 @@ use Rattle.paper.specs.Offsetting.{Netted, netted_in, Book, offset_row, Turn, tu
 use Rattle.paper.specs.Explanation.{is_net, listed, took_at, took_from, took_any, priorities_line, explanation_of, net_line, took_line, explanation_text}
 use Rattle.paper.specs.Answer.{has_both}
 use Rattle.paper.specs.Tables.{Admitted}
-use Rattle.paper.proofs.Lists.{never, both, given_some, first_passes, each_map, each_made, each_found, only_kept, only_left, take_map}
+use Rattle.paper.proofs.Lists.{never, both, given_some, first_passes, each_map, each_found, only_kept, only_left, take_map}
 use Rattle.paper.proofs.Order.{same_true}
 use Rattle.paper.proofs.Rules.{class_range}
-use Rattle.paper.proofs.Currencies.{each_currency}
 use Rattle.paper.proofs.Totals.{table_facts}
 use Rattle.tables.specs.Numbers.{currency_number, code_number, highest, number_place}
-use Rattle.tables.specs.Back.{ranged}
-use Rattle.tables.specs.Held.{held_tables}
-use Rattle.tables.specs.Ranks.{ranked_of}
+use Rattle.tables.specs.Held.{held_class, held_security, held_tables}
+use Rattle.tables.specs.Ranks.{ranked_of, rank_of as rank_found}
 use Rattle.tables.specs.declared.Security.{Security}
-use Rattle.tables.proofs.Numbers.{currency_number_low, currency_number_same}
-use Rattle.tables.proofs.Padded.{table_front}
-use Rattle.tables.proofs.Backs.{table_classes, table_ranged}
-use Rattle.tables.proofs.Places.{Stands, stands_low, stands_each, stands_held, first_stands, currency_stands}
-use Rattle.tables.proofs.Ranks.{money_of, rank_place, rank_has, none_there}
-use Rattle.codes.specs.Counts.{currency_or}
+use Rattle.tables.proofs.Numbers.{currency_number_same}
+use Rattle.tables.proofs.Backs.{table_classes}
+use Rattle.tables.proofs.Places.{Stands, stands_low, stands_each, first_stands, currency_stands}
+use Rattle.tables.proofs.Ranks.{money_of, rank_place, rank_has}
+use Rattle.codes.specs.Counts.{currency_in}
 use Rattle.offsetting.specs.Books.{row_of}
 use Rattle.margin.specs.Openings.{from_rank}
 use Rattle.margin.specs.Figures.{opening_of, opening_book}
@@ -44,19 +44,12 @@ use Rattle.margin.proofs.Trades.{security_held}
 use Rattle.margin.proofs.Paper.{letters, rising_currencies, currencies_few, rank_of, opening_worth, opening_held, priorities_paper, tables_ranged}
 use Rattle.lines.specs.Written.{code_text, security_line}
 use Rattle.lines.proofs.Spelled.{code_text_lem}
-use Rattle.reasons.specs.Texts.{asked_of, net_line_if, net_text, taken_line_if, row_text, left_by, setter_text, reason_text, Explainable}
+use Rattle.report.proofs.Columns.{stands_held}
+use Rattle.reasons.specs.Texts.{asked_of, net_line_if, net_text, taken_line_if, row_text, row_text_at, left_by, setter_text, remaining_text, reason_text, Explainable}
 
 -- ---- the question
 
 module _ (t : Tables) (admitted : Admitted t) where
-  -- The numbers of the currencies that the code holds
-  numbers_held : take (length (currencies t.securities)) (held_tables t).securities.currencies.numbers ≡ money_of t.securities
-  numbers_held = table_front 8 0 currency_number (currencies t.securities) (currencies_few t admitted)
-
-  -- What `asked` asks of the tables
-  pub askable : (length (currencies t.securities) ≤ 8) × (length t.classes ≤ 40) × (ranged (held_tables t).classes ≡ true)
-  askable = (currencies_few t admitted, (table_facts t admitted).few_classes, table_ranged t.classes admitted.1)
-
   module _ (c : Text) where
     -- A row that has a currency
     record Row : Type 0 where
@@ -83,51 +76,83 @@ module _ (t : Tables) (admitted : Admitted t) where
         go true k = never (sym e ∙ has_letters k)
         go false k = k
 
-    -- A currency is found by its number exactly where a row has it
-    found_there : (ranked_of (money_of t.securities) (currency_or c)).there ≡ has_currency t.securities c
-    found_there = go (is_currency c) refl
-      where
-        go : (b : Bool) → is_currency c ≡ b → (ranked_of (money_of t.securities) (currency_or c)).there ≡ has_currency t.securities c
-        go true e = rw e (rank_has t.securities (letters t admitted) c e)
-        go false e =
-            rw (e, no_row e)
-            (none_there highest
-            (each_made currency_number (currencies t.securities)
-            (each_map (λ d p. omega (arith, currency_number_low d p)) (each_currency (λ d. is_currency d ≡ true) t.securities (letters t admitted)))))
+    -- How its number stands among those of the currencies
+    abbrev standing : Result ℕ ℕ
+    standing = ranked_of (money_of t.securities) (currency_number c)
 
-    -- ... and then it stands at its rank
-    found_stands : has_currency t.securities c ≡ true → Stands c (currencies t.securities) (ranked_of (money_of t.securities) (currency_or c)).rank
-    found_stands has =
-        let r = has_row has in
-        let e = has_letters has in
-        let number : currency_or c ≡ currency_number c = rw e in
-        let place = rank_place (currency_or c) (money_of t.securities) (found_there ∙ has) in
+    -- A currency that is there stands at its rank
+    found_stands : is_currency c ≡ true → {rank : ℕ} → standing ≡ Ok rank → Stands c (currencies t.securities) rank
+    found_stands e {rank} f =
+        let there = ap is_ok f in
+        let r = has_row (sym (rank_has t.securities (letters t admitted) c e) ∙ there) in
+        let place : rank ≡ number_place (money_of t.securities) (currency_number c) =
+        sym (ap rank_found f) ∙ rank_place (currency_number c) (money_of t.securities) there in
         let at = first_stands (λ s. currency_number s.currency) (currency_number c) (λ s. same s.currency c)
         (each_map (λ s p. currency_number_same s.currency c p e) (letters t admitted)) r.row r.found in
-        rw (place, number) (subst (λ (d : Currency). Stands d (currencies t.securities) (number_place (money_of t.securities) (currency_number d))) r.own (currency_stands at (rising_currencies t admitted)))
+        rw place (subst (λ (d : Currency). Stands d (currencies t.securities) (number_place (money_of t.securities) (currency_number d))) r.own (currency_stands at (rising_currencies t admitted)))
 
     module _ (n : Class) where
-      -- A question is answered exactly where the sheet has the currency and the class
-      pub asked_there : (asked_of (held_tables t) c n).there ≡ has_both t c n
-      asked_there =
-          ap₂ ◌&&◌ (ap (λ (ns : List ℕ). (ranked_of ns (currency_or c)).there) numbers_held ∙ found_there)
-          (ap (λ (cs : List ClassRow). has_class cs n) (table_classes t.classes admitted.1))
+      -- What a question about the currency and a class finds
+      data Found : Option ℕ → Type 0 where
+        lacking : has_both t c n ≡ false → Found None
+        ranked : {rank : ℕ} → has_both t c n ≡ true → Stands c (currencies t.securities) rank → Found (Some rank)
 
-      module _ (has : has_both t c n ≡ true) where
-        -- Then the currency stands at its rank
-        pub asked_stands : Stands c (currencies t.securities) (asked_of (held_tables t) c n).rank
-        asked_stands =
-            rw numbers_held (found_stands (both (has_currency t.securities c) (has_class t.classes n) has).0)
+      -- By the letters, the standing and the class
+      abbrev answered : Bool → Result ℕ ℕ → Bool → Option ℕ
+      answered b s class = elim b [ false ↦ None | true ↦ elim s [ Ok rank ↦ then_some class rank | Err rank ↦ None ] ]
+
+      answered_found : (b : Bool) → is_currency c ≡ b → (s : Result ℕ ℕ) → standing ≡ s → (class : Bool) → has_class t.classes n ≡ class
+          → Found (answered b s class)
+      answered_found false e s f class k = lacking (rw (no_row e))
+      answered_found true e (Err rank) f class k = lacking (rw (sym (rank_has t.securities (letters t admitted) c e) ∙ ap is_ok f))
+      answered_found true e (Ok rank) f false k = lacking (ap₂ ◌&&◌ (sym (rank_has t.securities (letters t admitted) c e) ∙ ap is_ok f) k)
+      answered_found true e (Ok rank) f true k =
+          ranked (ap₂ ◌&&◌ (sym (rank_has t.securities (letters t admitted) c e) ∙ ap is_ok f) k) (found_stands e f)
+
+      -- So it is in the code
+      asked_answered : asked_of (held_tables t) c n ≡ answered (is_currency c) standing (has_class t.classes n)
+      asked_answered =
+          ap (λ (cs : List ClassRow). by (has_class cs n) (currency_in c)) (table_classes t.classes admitted.1)
+          ∙ go (is_currency c)
+        where
+          by : Bool → paper.Option ℕ → Option ℕ
+          by class none = None
+          by class (some own) = elim (ranked_of (money_of t.securities) own) [ Ok rank ↦ then_some class rank | Err rank ↦ None ]
+
+          go : (b : Bool) → by (has_class t.classes n) (when b (currency_number c)) ≡ answered b standing (has_class t.classes n)
+          go true = refl
+          go false = refl
+
+      found : Found (asked_of (held_tables t) c n)
+      found =
+          subst⁻¹ Found asked_answered (answered_found (is_currency c) refl standing refl (has_class t.classes n) refl)
+
+      -- A question is answered exactly where the sheet has the currency and the class
+      pub asked_there : is_some (asked_of (held_tables t) c n) ≡ has_both t c n
+      asked_there = go found
+        where
+          go : {o : Option ℕ} → Found o → is_some o ≡ has_both t c n
+          go (lacking e) = sym e
+          go (ranked e at) = sym e
+
+      module _ {rank : ℕ} (is : asked_of (held_tables t) c n ≡ Some rank) where
+        -- Then the currency stands at the rank
+        pub asked_stands : Stands c (currencies t.securities) rank
+        asked_stands = go found is
+          where
+            go : {o : Option ℕ} → Found o → o ≡ Some rank → Stands c (currencies t.securities) rank
+            go (lacking e) k = absurd (cc)
+            go (ranked {rank = other} e at) k = let same : other ≡ rank = cc in rw (← same) at
 
         -- ... and it can be explained
-        pub explainable_held : Explainable (held_tables t) (asked_of (held_tables t) c n).rank n
+        pub explainable_held : Explainable (held_tables t) rank n
         explainable_held =
-            let facts = table_facts t admitted in
+            let has = sym asked_there ∙ ap is_some is in
             let class = (both (has_currency t.securities c) (has_class t.classes n) has).1 in
             record {
               ranged = tables_ranged t admitted;
               rank_low = omega (arith, stands_low asked_stands, currencies_few t admitted);
-              class_low = (class_range t.classes n facts.classes class).1;
+              class_low = (class_range t.classes n (table_facts t admitted).classes class).1;
             }
 
 -- ---- the R lines
@@ -224,12 +249,9 @@ module _ (t : Tables) (admitted : Admitted t) (k : ℕ) (c : Currency) (at : Sta
   -- ---- the whole text
 
   -- The positions that rows of the table leave are those that the paper's rows leave
-  left_held : (i : ℕ) → i ≤ length t.priorities → left_by (held_tables t).priorities (opening_book (held_tables t) k) i ≡ offset_all (take i t.priorities) (opening_in t c)
-  left_held i few =
-      let rows = (held_tables t).priorities.rows in
-      ap₂ offset_all
-      (ap (map row_of) (sym (take-take i (length t.priorities) rows few)) ∙ sym (take_map row_of i (take (length t.priorities) rows))
-      ∙ ap (take i) (priorities_paper t admitted))
+  left_held : (i : ℕ) → left_by (held_tables t).priorities.items (opening_book (held_tables t) k) i ≡ offset_all (take i t.priorities) (opening_in t c)
+  left_held i =
+      ap₂ offset_all (sym (take_map row_of i (held_tables t).priorities.items) ∙ ap (take i) (priorities_paper t admitted))
       (opening_held t admitted k c at)
 
   -- The text of admitted tables is the paper's
@@ -238,9 +260,16 @@ module _ (t : Tables) (admitted : Admitted t) (k : ℕ) (c : Currency) (at : Sta
   text_held =
       let os = t.priorities in
       let b = opening_in t c in
+      let held = (held_tables t).priorities.items in
+      let book = opening_book (held_tables t) k in
+      let many : length held ≡ length os = sym (length-map held row_of) ∙ ap length (priorities_paper t admitted) in
       ap₂ (λ (nets others : Text). nets ++ others)
-      (ap joined_up (ranks_made _ (net_piece c n (netted_in t.classes (valued_in t))) t.securities net_held) ∙ nets_told c n (netted_in t.classes (valued_in t)) t.securities)
-      (ap₂ (λ (rows : Text) (left : Book). rows ++ setter_text n left)
-      (ap joined_up (ranks_same _ (row_took n (priorities_line t) os b) (length os) 0 (λ i low. ap₂ (row_text (priorities_line t + i) n) (left_held i (omega arith)) (left_held (suc i) (omega arith))))
+      (ap (λ (many : ℕ). joined_up (from_rank (net_text (held_tables t).securities (opening_of (held_tables t) k).worths k n) many 0))
+      (length-map t.securities (held_security t.classes (currencies t.securities)))
+      ∙ ap joined_up (ranks_made _ (net_piece c n (netted_in t.classes (valued_in t))) t.securities net_held) ∙ nets_told c n (netted_in t.classes (valued_in t)) t.securities)
+      (ap (λ (many : ℕ). remaining_text (3 + many) held n book) (length-map t.classes held_class)
+      ∙ ap (λ (many : ℕ). joined_up (from_rank (row_text_at (priorities_line t) held n book) many 0) ++ setter_text n (left_by held book many)) many
+      ∙ ap₂ (λ (rows : Text) (left : Book). rows ++ setter_text n left)
+      (ap joined_up (ranks_same _ (row_took n (priorities_line t) os b) (length os) 0 (λ i low. ap₂ (row_text (priorities_line t + i) n) (left_held i) (left_held (suc i))))
       ∙ rows_told n os (priorities_line t) b)
-      (left_held (length os) (omega arith) ∙ ap (λ (rows : List PriorityRow). offset_all rows b) (take_all (length os) os (omega arith))))
+      (left_held (length os) ∙ ap (λ (rows : List PriorityRow). offset_all rows b) (take_all (length os) os (omega arith))))

@@ -2,63 +2,43 @@
 // priority list took from it, and the remaining side that set the margin.
 #![tactic(auto)]
 
-ghost use Rattle.std.specs.Prelude.{◌≡◌, true, ℕ, ◌+◌, ◌≤◌, ◌<◌, ◌^◌, pos, nat_abs, length, get_or, take};
+ghost use Rattle.std.specs.Prelude.{◌≡◌, ℕ, ◌+◌, ◌≤◌, ◌<◌, pos, nat_abs, map, length, get_or};
 ghost use Rattle.paper.specs.Lists.{Each};
 ghost use Rattle.paper.specs.Refusals.{has_class};
 ghost use Rattle.paper.specs.Offsetting.{offset_row};
 ghost use Rattle.paper.specs.Bounds.{most_net_cents, PriorityFacts, BookFacts};
-ghost use Rattle.tables.specs.Back.{paper_classes, ranged};
+ghost use Rattle.tables.specs.Back.{paper_class};
 ghost use Rattle.offsetting.specs.Books.{book_of, row_of};
-ghost use Rattle.margin.specs.Openings.{Seated};
-ghost use Rattle.margin.specs.Figures.{priority_rows};
 ghost use Rattle.lines.specs.Written.{Wrote};
 ghost use Rattle.reasons.specs.Texts.{asked_of, net_line_if, net_texts, taken_line_if, row_text, remaining_text, reason_text, Explainable};
 
 use lines::Place;
 use margin::Opening;
-use offsetting::Whole;
-use tables::{Classes, Code, Priorities, PriorityRow, Securities, Tables};
+use offsetting::{Book, Whole};
+use tables::{ClassRow, Code, PriorityRow, Securities, Tables};
 use valuation::SignedCents;
-
-// The currency and the class of a question: where the one stands among those of the sheet, and whether the sheet has both.
-#[derive(Drop)]
-pub struct Question {
-    pub rank: usize, // of the currency
-    pub there: bool,
-}
 
 // Whether a class has a C row.
 fn has_class(
-    classes: Classes,
+    classes: &[ClassRow],
     class: u64, // any number
 ) -> bool
-    requires { (classes.count ≤ 40) × (ranged classes ≡ true) }
-    ensures { result ≡ has_class (paper_classes classes) class }
+    ensures { result ≡ has_class (map paper_class classes.now) class }
 {
-    if 40 < class {
-        return false;
-    }
-    let known = priorities::known_classes(classes);
-    known[class as usize]
+    classes.iter().any(|row| row.class == class)
 }
 
-// Where a currency, by any bytes, and a class, by any number, stand in the tables.
+// The rank of a currency, by any bytes, where the tables have it and a class, by any number.
 pub fn asked(
-    tables: Tables,
+    tables: &Tables,
     currency: &[u8],
     class: u64, // any number
-) -> Question
-    requires { (tables.securities.currencies.count ≤ 8) × (tables.classes.count ≤ 40) × (ranged tables.classes ≡ true) }
-    ensures { result ≡ asked_of tables currency.now class }
+) -> Option<usize>
+    ensures { result ≡ asked_of tables.now currency.now class }
 {
-    let known = tables.securities.currencies;
-    let numbers = known.numbers;
-    let own = codes::currency_in(currency, 0, currency.len());
-    let standing = tables::ranked(&numbers, known.count, own);
-    Question {
-        rank: standing.rank,
-        there: standing.there & has_class(tables.classes, class),
-    }
+    let own = codes::currency(currency)?;
+    let rank = tables::ranked(tables.securities.currencies.as_slice(), own).ok()?;
+    has_class(tables.classes.as_slice(), class).then_some(rank)
 }
 
 // The P line of a security, where it is one of those asked for and its net is not zero.
@@ -69,14 +49,10 @@ fn put_net(
     code: Code,
     net: i64, // whole units
 ) -> Place
-    requires size { nat_abs net < 2 ^ 63 }
-    requires room { at + length (net_line_if own code net) ≤ length report.old }
+    requires { at + length (net_line_if own code net) ≤ length report.old }
     ensures { Wrote (net_line_if own code net) at report.old result report.new }
 {
-    if !own {
-        return at;
-    }
-    if net == 0 {
+    if !own || net == 0 {
         return at;
     }
     lines::security_line(report, at, code, net)
@@ -85,25 +61,20 @@ fn put_net(
 // The P lines of a class in a currency, in sheet order.
 fn net_lines(
     report: &mut [u8],
-    securities: Securities,
+    securities: &Securities,
     worths: &[SignedCents; 200],
     rank: usize, // currency
     class: usize, // its number
 ) -> Place
-    requires rows { (securities.count ≤ 200) × Each Seated (take securities.count securities.rows) × ((i : ℕ) → nat_abs (get_or worths.now i (pos 0)) ≤ most_net_cents) }
-    requires room { length (net_texts securities worths.now rank class) ≤ length report.old }
-    ensures { Wrote (net_texts securities worths.now rank class) 0 report.old result report.new }
+    requires worths { (i : ℕ) → nat_abs (get_or worths.now i (pos 0)) ≤ most_net_cents }
+    requires room { length (net_texts securities.now worths.now rank class) ≤ length report.old }
+    ensures { Wrote (net_texts securities.now worths.now rank class) 0 report.old result report.new }
 {
-    let rows = securities.rows;
-    let codes = securities.codes;
     let mut at: Place = 0;
-    let mut i: usize = 0; // securities
-    while i < securities.count {
-        let row = rows[i];
+    for (i, row) in securities.rows.as_slice().iter().enumerate() {
         let own = (row.currency as usize == rank) & (row.class as usize == class);
         let net = whole::rounded(worths[i], 100); // whole units
-        at = put_net(report, at, own, codes[i], net);
-        i += 1;
+        at = put_net(report, at, own, securities.codes[i], net);
     }
     at
 }
@@ -131,24 +102,23 @@ fn take_row(
     at: Place,
     line: u64, // of the sheet, from 1
     class: usize, // its number
-    long: &mut [Whole; 41],
-    short: &mut [Whole; 41],
+    book: &mut Book,
     row: PriorityRow,
 ) -> Place
-    requires facts { (class ≤ 40) × PriorityFacts (row_of row) × BookFacts (book_of long.old short.old) }
-    requires room { at + length (row_text line class (book_of long.old short.old) (offset_row (row_of row) (book_of long.old short.old))) ≤ length report.old }
-    ensures left { book_of long.new short.new ≡ offset_row (row_of row) (book_of long.old short.old) }
-    ensures written { Wrote (row_text line class (book_of long.old short.old) (offset_row (row_of row) (book_of long.old short.old))) at report.old result report.new }
+    requires facts { (class ≤ 40) × PriorityFacts (row_of row) × BookFacts (book_of book.old) }
+    requires room { at + length (row_text line class (book_of book.old) (offset_row (row_of row) (book_of book.old))) ≤ length report.old }
+    ensures left { book_of book.new ≡ offset_row (row_of row) (book_of book.old) }
+    ensures written { Wrote (row_text line class (book_of book.old) (offset_row (row_of row) (book_of book.old))) at report.old result report.new }
 {
-    let long_met = long[class]; // whole units
-    let short_met = short[class]; // whole units
-    offsetting::offset_row(long, short, row);
+    let long_met = book.long[class]; // whole units
+    let short_met = book.short[class]; // whole units
+    book.offset_row(row);
     put_taken(
         report,
         at,
         line,
-        long_met - long[class],
-        short_met - short[class],
+        long_met - book.long[class],
+        short_met - book.short[class],
     )
 }
 
@@ -158,48 +128,42 @@ fn remaining_lines(
     report: &mut [u8],
     from: Place,
     first: usize, // line of the sheet
-    priorities: Priorities,
+    priorities: &[PriorityRow],
     class: usize, // its number
-    opening: Opening,
+    mut book: Book,
 ) -> Place
-    requires rows { (first ≤ 43) × (class ≤ 40) × (priorities.count ≤ 200) × Each (λ o. PriorityFacts (row_of o)) (priority_rows priorities) }
-    requires book { BookFacts (book_of opening.long opening.short) }
-    requires room { from + length (remaining_text first priorities class (book_of opening.long opening.short)) ≤ length report.old }
-    ensures { Wrote (remaining_text first priorities class (book_of opening.long opening.short)) from report.old result report.new }
+    requires rows { (first ≤ 43) × (class ≤ 40) × (length priorities.now ≤ 200) × Each (λ o. PriorityFacts (row_of o)) priorities.now }
+    requires book { BookFacts (book_of book) }
+    requires room { from + length (remaining_text first priorities.now class (book_of book)) ≤ length report.old }
+    ensures { Wrote (remaining_text first priorities.now class (book_of book)) from report.old result report.new }
 {
-    let rows = priorities.rows;
-    let mut long = opening.long; // whole units
-    let mut short = opening.short; // whole units
     let mut at = from;
-    let mut i: usize = 0; // rows
-    while i < priorities.count {
+    for (i, &row) in priorities.iter().enumerate() {
         let line = (first + i) as u64; // of the sheet
-        at = take_row(report, at, line, class, &mut long, &mut short, rows[i]);
-        i += 1;
+        at = take_row(report, at, line, class, &mut book, row);
     }
-    lines::setter_line(report, at, long[class], short[class])
+    lines::setter_line(report, at, book.long[class], book.short[class])
 }
 
 // The whole explanation of a class in the currency of a rank, from the buffer's start; gives its length.
 pub fn write(
     report: &mut [u8],
-    tables: Tables,
+    tables: &Tables,
     rank: usize, // currency
     class: usize, // its number
 ) -> Place
-    requires explainable { Explainable tables rank class }
-    requires room { length (reason_text tables rank class) ≤ length report.old }
-    ensures { Wrote (reason_text tables rank class) 0 report.old result report.new }
+    requires explainable { Explainable tables.now rank class }
+    requires room { length (reason_text tables.now rank class) ≤ length report.old }
+    ensures { Wrote (reason_text tables.now rank class) 0 report.old result report.new }
 {
-    let opening = margin::opening_of(tables, rank);
-    let worths = opening.worths; // cents
-    let at = net_lines(report, tables.securities, &worths, rank, class);
+    let Opening { worths, book } = margin::opening_of(tables, rank);
+    let at = net_lines(report, &tables.securities, &worths, rank, class);
     remaining_lines(
         report,
         at,
-        3 + tables.classes.count,
-        tables.priorities,
+        3 + tables.classes.len(),
+        tables.priorities.as_slice(),
         class,
-        opening,
+        book,
     )
 }

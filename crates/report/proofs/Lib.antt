@@ -1,2 +1,3 @@
 pub mod Loops
+pub mod Columns
 pub mod Paper

@@ -3,13 +3,13 @@ use Prim.Native.Nat.{ℕ, zero, suc, ◌+◌, ◌≤◌, ◌<◌}
 use native.Mathlib.Nat.{zero-add, le_of_suc-le-suc, not-suc-le-zero}
 use native.Mathlib.Numerals.{add-one}
 use native.Mathlib.Omega.{arith}
-use mathlib.Core.List.{List, [], ◌∷◌, ◌++◌, append_assoc, append-nil}
-use mathlib.Core.Path.{◌≡◌, sym, ap, ◌∙◌}
+use mathlib.Core.List.{List, [], ◌∷◌, ◌++◌, map, map-append, append_assoc, append-nil}
+use mathlib.Core.Path.{◌≡◌, refl, sym, ap, ◌∙◌, subst}
 use lib.ListN.{length, length-append}
 use Rattle.paper.specs.Units.{Text}
 use Rattle.paper.specs.Lists.{joined_up}
 use Rattle.lines.specs.Written.{Place, Wrote}
-use Rattle.lines.proofs.Written.{Parts, written_length, room, joined}
+use Rattle.lines.proofs.Written.{Parts, none_written, written_length, room, joined}
 use Rattle.margin.specs.Openings.{from_rank}
 use Rattle.margin.proofs.Forwards.{ranks_more}
 
@@ -50,10 +50,63 @@ module _ (text : ℕ → Text) where
     next_fits : from + length (texts (i + 1)) ≤ length b
     next_fits = omega (arith, texts_longer (i + 1) many 0 (omega arith))
 
-    -- So in a turn the next has room
-    pub turn_room : at + length (text i) ≤ length now
-    turn_room = room (texts_more i) from b next_fits w
+    -- Of the next text, as a turn has it
+    module _ {t : Text} (is : t ≡ text i) where
+      -- It has room
+      pub turn_room : at + length t ≤ length now
+      turn_room = rw is (room (texts_more i) from b next_fits w)
 
-    -- And once it is written, the texts of a rank more are
-    pub turn : {next : Place} {after : Text} → Wrote (text i) at now next after → Wrote (texts (i + 1)) from b next after
-    turn v = joined (texts_more i) from b next_fits w v
+      -- And once it is written, the texts of a rank more are
+      pub turn : {next : Place} {after : Text} → Wrote t at now next after → Wrote (texts (i + 1)) from b next after
+      turn v = joined (texts_more i) from b next_fits w (rw is at v)
+
+-- ... or for each entry of a list
+module _ {A : Type 0} (text : A → Text) where
+  -- The texts of entries, joined
+  abbrev told : List A → Text
+  told xs = joined_up (map text xs)
+
+  -- Those of an entry more end with its text
+  told_more : (xs : List A) (x : A) → Parts (told (xs ++ (x ∷ []))) (told xs) (text x)
+  told_more xs x = record { are = ap joined_up (map-append text xs (x ∷ [])) ∙ joined_last (map text xs) (text x) }
+
+  -- Those of more entries are at least as long
+  told_longer : (xs rest : List A) → length (told xs) ≤ length (told (xs ++ rest))
+  told_longer [] rest = omega arith
+  told_longer (x ∷ xs) rest = simp length-append (omega (arith, told_longer xs rest))
+
+  -- The texts of all entries but those left are written
+  pub record Told (all left : List A) (from : Place) (b : Text) (at : Place) (now : Text) : Type 0 where
+    pub before : List A
+    pub are : before ++ left ≡ all
+    pub wrote : Wrote (told before) from b at now
+
+  module _ (all : List A) (from : Place) (b : Text) where
+    -- At first all are left
+    pub told_none : Told all all from b from b
+    told_none = record { before = []; are = refl; wrote = none_written from b }
+
+    module _ (left : List A) {at : Place} {now : Text} (w : Told all left from b at now) where
+      -- Where none is left, all are written
+      pub told_all : left ≡ [] → Wrote (told all) from b at now
+      told_all none =
+          let same : w.before ≡ all = sym (append-nil w.before) ∙ ap (λ (l : List A). w.before ++ l) (sym none) ∙ w.are in
+          subst (λ (l : List A). Wrote (told l) from b at now) same w.wrote
+
+      module _ (fits : from + length (told all) ≤ length b) (x : A) (rest : List A) (next : left ≡ x ∷ rest) where
+        -- The texts so far and the next are the front of all
+        more : (w.before ++ (x ∷ [])) ++ rest ≡ all
+        more = append_assoc w.before (x ∷ []) rest ∙ ap (λ (l : List A). w.before ++ l) (sym next) ∙ w.are
+
+        -- ... and fit
+        told_fits : from + length (told (w.before ++ (x ∷ []))) ≤ length b
+        told_fits = omega (arith, told_longer (w.before ++ (x ∷ [])) rest, ap (λ (l : List A). length (told l)) more)
+
+        -- The next has room
+        pub told_room : at + length (text x) ≤ length now
+        told_room = room (told_more w.before x) from b told_fits w.wrote
+
+        -- And once it is written, one fewer is left
+        pub told_next : {last : Place} {end : Text} → Wrote (text x) at now last end → Told all rest from b last end
+        told_next v =
+            record { before = w.before ++ (x ∷ []); are = more; wrote = joined (told_more w.before x) from b told_fits w.wrote v }

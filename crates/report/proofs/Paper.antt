@@ -1,11 +1,12 @@
 -- The report's text of admitted tables, from the tables and figures as the code holds them, is the paper's, and it can be written.
-use Prim.Native.Nat.{ℕ, suc, ◌+◌, ◌≤◌, ◌<◌, ◌^◌}
+use Prim.Native.Nat.{ℕ, suc, ◌+◌}
 use native.Mathlib.Omega.{arith}
 use mathlib.Core.Bool.{Bool, true, false}
 use mathlib.Core.List.{List, [], ◌∷◌, ◌++◌, map}
 use mathlib.Core.Path.{◌≡◌, refl, sym, ap, ap₂, ◌∙◌}
-use lib.IntN.{pos, nat_abs}
-use lib.ListN.{length}
+use lib.IntN.{pos}
+use lib.ListN.{length, length-map}
+use Rattle.std.specs.List.{zip}
 use Rattle.paper.specs.Units.{Text, Line, Currency, SignedCents, Whole}
 use Rattle.paper.specs.Days.{day}
 use Rattle.paper.specs.Lists.{joined_up, Each, nil, cons}
@@ -16,26 +17,24 @@ use Rattle.paper.specs.Currencies.{currencies}
 use Rattle.paper.specs.Valuation.{margined, valued, valued_from, valued_in}
 use Rattle.paper.specs.Offsetting.{position, remaining_in}
 use Rattle.paper.specs.Report.{Listing, is_listed, trade_line, class_line, margin_of, currency_lines, report_of}
-use Rattle.paper.specs.Bounds.{most_mark}
 use Rattle.paper.specs.Tables.{Admitted}
-use Rattle.paper.proofs.Lists.{each_map, each_made, each_all, joined_only}
-use Rattle.paper.proofs.Bounds.{valued_facts}
+use Rattle.paper.proofs.Lists.{each_map, each_made, joined_only}
 use Rattle.paper.proofs.Currencies.{each_currency}
-use Rattle.paper.proofs.Totals.{TableFacts, table_facts, currency_facts}
+use Rattle.paper.proofs.Totals.{TableFacts, table_facts}
 use Rattle.tables.specs.Numbers.{currency_number}
-use Rattle.tables.specs.Held.{no_class, no_security, no_trade, held_class, held_security, held_tables}
+use Rattle.tables.specs.Held.{no_class, no_trade, held_class, held_priority, held_security, held_tables}
 use Rattle.tables.specs.declared.ClassRow.{ClassRow}
 use Rattle.tables.proofs.Numbers.{currency_number_low}
-use Rattle.tables.proofs.Places.{Stands, here, there, stands_low, stands_each, each_standing, stands_held, padded_any, currency_stands}
+use Rattle.tables.proofs.Places.{Stands, here, there, stands_low, stands_each, each_standing, stands_made, currency_stands}
 use Rattle.margin.specs.Openings.{from_rank}
-use Rattle.margin.specs.Figures.{no_currency}
 use Rattle.margin.specs.Held.{mark_of, held_currency, held_figures}
 use Rattle.margin.proofs.Forwards.{ranks_made}
 use Rattle.margin.proofs.Trades.{Known, trades_known, trade_in, security_held, valued_out, valued_own}
-use Rattle.margin.proofs.Paper.{trades_line, letters, rising_currencies, currencies_few, rank_low}
+use Rattle.margin.proofs.Paper.{trades_line, letters, rising_currencies}
 use Rattle.lines.specs.Written.{money_text, mark_line, position_line, total_line}
 use Rattle.lines.proofs.Spelled.{money_text_lem}
-use Rattle.report.specs.Texts.{money_at, marked, mark_text, listed_line, position_text, currency_text, no_figures, lines_of, report_text, Writable}
+use Rattle.report.proofs.Columns.{stands_held}
+use Rattle.report.specs.Texts.{first_line, money_at, marked, mark_text, listed_line, position_text, lines_of, report_text, Writable}
 
 -- The paper's M lines of T rows that begin at a line
 abbrev marks_from : Tables → Line → List TradeRow → Text
@@ -46,20 +45,30 @@ module _ (t : Tables) (admitted : Admitted t) where
   facts : TableFacts t
   facts = table_facts t admitted
 
+  -- Each currency is three letters
+  names : Each (λ c. is_currency c ≡ true) (currencies t.securities)
+  names = each_currency (λ c. is_currency c ≡ true) t.securities (letters t admitted)
+
   -- The letters of the currency of a rank are the paper's
   money_held : (k : ℕ) (c : Currency) → Stands c (currencies t.securities) k → money_text (money_at (held_tables t) k) ≡ c
   money_held k c at =
-      ap money_text (stands_held 8 0 currency_number (currencies_few t admitted) at 0)
-      ∙ money_text_lem c (stands_each (each_currency (λ c. is_currency c ≡ true) t.securities (letters t admitted)) at)
+      ap money_text (stands_made currency_number 0 at)
+      ∙ money_text_lem c (stands_each names at)
 
   -- ---- M lines
+
+  -- The first T row stands where the paper has it
+  first_held : first_line (held_tables t) ≡ trades_line t
+  first_held =
+      omega (arith, length-map t.classes held_class, length-map t.priorities held_priority, length-map t.securities (held_security t.classes (currencies t.securities)))
 
   -- The M line of a T row before those of the rows behind it
   mark_first : (k : ℕ) (r : TradeRow) → Known t r → Stands r t.trades k → (rs : List TradeRow)
       → mark_text (held_tables t) (held_figures t) k ++ marks_from t (suc (trades_line t + k)) rs ≡ marks_from t (trades_line t + k) (r ∷ rs)
   mark_first k r known at rs =
       rw (
-        stands_held 500 no_trade (trade_in t) facts.few_trades at no_trade,
+        first_held,
+        stands_made (trade_in t) no_trade at,
         security_held t admitted known.stands,
         stands_held 500 (pos 0) (mark_of t) facts.few_trades at (pos 0),
       )
@@ -99,36 +108,42 @@ module _ (t : Tables) (admitted : Admitted t) where
   -- ---- K and Z lines, of either listing
 
   module _ (listing : Listing) where
-    -- The K line of a class in a currency, where it is listed
-    position_held : (k : ℕ) (c : Currency) → Stands c (currencies t.securities) k → (i : ℕ) (row : paper.ClassRow) → Stands row t.classes i
-        → position_text listing (money_at (held_tables t) k) (held_tables t).classes (held_currency t c) i
-        ≡ elim (is_listed listing (remaining_in t c) row) [ true ↦ class_line c (remaining_in t c) row | false ↦ [] ]
-    unfolding class_line
-    position_held k c money i row at =
-        let b = remaining_in t c in
-        ap₂ (λ (h : ClassRow) (margin : Whole).
-        listed_line listing (money_at (held_tables t) k) h.class (position b.long h.class) (position b.short h.class) margin)
-        (stands_held 40 no_class held_class facts.few_classes at no_class)
-        (stands_held 40 0 (margin_of b) facts.few_classes at 0)
-        ∙ ap (λ (name : Currency).
-        elim (is_listed listing b row) [
-          | true ↦ position_line name row.class (position b.long row.class) (position b.short row.class) (margin_of b row)
-          | false ↦ []
-        ])
-        (money_held k c money)
+    module _ (c : Currency) (own : is_currency c ≡ true) where
+      -- The K line of a class in a currency, where it is listed
+      position_held : (i : ℕ) (row : paper.ClassRow) → Stands row t.classes i
+          → position_text listing (currency_number c) (held_tables t).classes (held_currency t c) i
+          ≡ elim (is_listed listing (remaining_in t c) row) [ true ↦ class_line c (remaining_in t c) row | false ↦ [] ]
+      unfolding class_line
+      position_held i row at =
+          let b = remaining_in t c in
+          ap₂ (λ (h : ClassRow) (margin : Whole).
+          listed_line listing (currency_number c) h.class (position b.long h.class) (position b.short h.class) margin)
+          (stands_made held_class no_class at)
+          (stands_held 40 0 (margin_of b) facts.few_classes at 0)
+          ∙ ap (λ (name : Currency).
+          elim (is_listed listing b row) [
+            | true ↦ position_line name row.class (position b.long row.class) (position b.short row.class) (margin_of b row)
+            | false ↦ []
+          ])
+          (money_text_lem c own)
 
-    -- The lines of a currency
-    currency_held : (k : ℕ) (c : Currency) → Stands c (currencies t.securities) k
-        → currency_text listing (held_tables t) (held_figures t) k ≡ currency_lines listing t (valued_in t) c
-    unfolding currency_lines
-    currency_held k c at =
-        let f = held_currency t c in
-        let b = remaining_in t c in
-        ap (lines_of listing (money_at (held_tables t) k) (held_tables t).classes) (stands_held 8 no_currency (held_currency t) (currencies_few t admitted) at no_figures)
-        ∙ ap₂ (λ (positions : Text) (name : Currency). positions ++ total_line name f.mark f.initial f.total)
-        (ap joined_up (ranks_made _ (λ (row : paper.ClassRow). elim (is_listed listing b row) [ true ↦ class_line c b row | false ↦ [] ]) t.classes (position_held k c at))
-        ∙ sym (joined_only (class_line c b) (is_listed listing b) t.classes))
-        (money_held k c at)
+      -- The lines of a currency
+      currency_held : lines_of listing (held_tables t).classes (currency_number c, held_currency t c) ≡ currency_lines listing t (valued_in t) c
+      unfolding currency_lines
+      currency_held =
+          let f = held_currency t c in
+          let b = remaining_in t c in
+          ap₂ (λ (positions : Text) (name : Currency). positions ++ total_line name f.mark f.initial f.total)
+          (ap (λ (many : ℕ). joined_up (from_rank (position_text listing (currency_number c) (held_tables t).classes f) many 0)) (length-map t.classes held_class)
+          ∙ ap joined_up (ranks_made _ (λ (row : paper.ClassRow). elim (is_listed listing b row) [ true ↦ class_line c b row | false ↦ [] ]) t.classes position_held)
+          ∙ sym (joined_only (class_line c b) (is_listed listing b) t.classes))
+          (money_text_lem c own)
+
+    -- Those of currencies, each with its figures
+    currencies_held : {cs : List Currency} → Each (λ c. is_currency c ≡ true) cs
+        → map (lines_of listing (held_tables t).classes) (zip (map currency_number cs) (map (held_currency t) cs)) ≡ map (currency_lines listing t (valued_in t)) cs
+    currencies_held nil = refl
+    currencies_held (cons {a} own rest) = ap₂ (λ (x : Text) (l : List Text). x ∷ l) (currency_held a own) (currencies_held rest)
 
     -- The report's text of admitted tables is the paper's
     pub text_held : report_text listing (held_tables t) (held_figures t) ≡ report_of listing t
@@ -136,66 +151,23 @@ module _ (t : Tables) (admitted : Admitted t) where
     text_held =
         let start : trades_line t + 0 ≡ trades_line t = omega arith in
         ap₂ (λ (marks others : Text). marks ++ others)
-        (marks_held (trades_known t admitted) 0 (λ k r at. let same : 0 + k ≡ k = omega arith in rw same at) ∙ ap (λ (line : Line). marks_from t line t.trades) start)
-        (ap joined_up (ranks_made _ (currency_lines listing t (valued_in t)) (currencies t.securities) currency_held))
+        (ap (λ (many : ℕ). joined_up (from_rank (mark_text (held_tables t) (held_figures t)) many 0)) (length-map t.trades (trade_in t))
+        ∙ marks_held (trades_known t admitted) 0 (λ k r at. let same : 0 + k ≡ k = omega arith in rw same at) ∙ ap (λ (line : Line). marks_from t line t.trades) start)
+        (ap joined_up (currencies_held names))
 
   -- ---- it can be written
 
-  -- The mark-to-market of a trade, in size: cents
-  mark_size : (r : TradeRow) → Known t r → nat_abs (mark_of t r) ≤ most_mark
-  mark_size r known = go (margined (day t.date) r) refl
-    where
-      go : (own : Bool) → margined (day t.date) r ≡ own → nat_abs (mark_of t r) ≤ most_mark
-      go false e = rw (e, mark_of) (omega arith)
-      go true e =
-          let s = known.security in
-          rw (e, known.found, mark_of)
-          (valued_facts (day t.date) 0 r s known.facts.facts (stands_each facts.securities known.stands) e (known.facts.period s known.found e).1
-          (omega arith)
-          ).mark
-
   -- The report of admitted tables can be written
-  pub writable_held : Writable (held_tables t) (held_figures t)
+  pub writable_held : Writable (held_tables t)
   writable_held =
       let cs = currencies t.securities in
+      let places = held_security t.classes cs in
       record {
-        classes = record {
-          few = facts.few_classes;
-          class =
-              padded_any (λ h. h.class ≤ 40) 40 (each_made held_class t.classes (each_map (λ c f. f.high) facts.classes)) (omega arith) no_class (omega arith);
-        };
-        few_priorities = facts.few_priorities;
-        few_securities = facts.few_securities;
-        few_trades = facts.few_trades;
-        few_currencies = currencies_few t admitted;
-        security =
-            padded_any (λ h. h.security < 200) 500
-            (each_made (trade_in t) t.trades (each_map (λ r known. omega (arith, stands_low known.stands, facts.few_securities)) (trades_known t admitted)))
-            (omega arith)
-            no_trade
-            (omega arith);
-        currency =
-            padded_any (λ h. h.currency < 8) 200
-            (each_made (held_security t.classes cs) t.securities (each_standing t.securities (λ k s at. rank_low t admitted at)))
-            (omega arith)
-            no_security
-            (omega arith);
-        money =
-            padded_any (λ n. n < 79_507) 8
-            (each_made currency_number cs (each_map currency_number_low (each_currency (λ c. is_currency c ≡ true) t.securities (letters t admitted))))
-            (omega arith)
-            0
-            (omega arith);
-        mark =
-            padded_any (λ mark. nat_abs mark < 2 ^ 63) 500
-            (each_made (mark_of t) t.trades (each_map (λ r known. omega (arith, mark_size r known)) (trades_known t admitted)))
-            (omega arith)
-            (pos 0)
-            (omega arith);
-        sum =
-            padded_any (λ c. nat_abs c.mark < 2 ^ 63) 8
-            (each_made (held_currency t) cs (each_all (λ c. omega (arith, (currency_facts t admitted c).mark)) cs))
-            (omega arith)
-            no_figures
-            (omega arith);
+        classes = each_made held_class t.classes (each_map (λ c f. f.high) facts.classes);
+        securities =
+            each_made (trade_in t) t.trades (each_map (λ r known. omega (arith, stands_low known.stands, length-map t.securities places)) (trades_known t admitted));
+        currencies =
+            each_made places t.securities
+            (each_standing t.securities (λ k s at. omega (arith, stands_low (currency_stands at (rising_currencies t admitted)), length-map cs currency_number)));
+        money = each_made currency_number cs (each_map currency_number_low names);
       }

@@ -2,15 +2,15 @@
 // every class; a quiet one leaves out those of zeros.
 #![tactic(auto)]
 
-ghost use Rattle.std.specs.Prelude.{◌+◌, ◌≤◌, ◌<◌, ◌^◌, nat_abs, length};
-ghost use Rattle.paper.specs.Lists.{joined_up};
-ghost use Rattle.margin.specs.Openings.{from_rank};
+ghost use Rattle.std.specs.Prelude.{◌+◌, ◌≤◌, ◌<◌, length};
 ghost use Rattle.lines.specs.Written.{Wrote};
-ghost use Rattle.report.specs.Texts.{Writable, Classed, marked, mark_text, listed_line, position_text, currency_text, report_text};
+ghost use Rattle.report.specs.Texts.{Writable, Classed, marked, mark_texts, listed_line, position_texts, currency_texts, report_text};
 
 use lines::Place;
 use margin::{Currency, Figures};
+use offsetting::Whole;
 use tables::{Classes, Money, Tables};
+use valuation::SignedCents;
 
 // The M line of a trade, where it is margined.
 fn put_mark(
@@ -19,9 +19,9 @@ fn put_mark(
     margined: bool,
     money: Money,
     line: u64, // of the sheet, from 1
-    mark: i64, // cents
+    mark: SignedCents,
 ) -> Place
-    requires numbers { (nat_abs mark < 2 ^ 63) × (money < 79_507) }
+    requires currency { money < 79_507 }
     requires room { at + length (marked margined line money mark) ≤ length report.old }
     ensures { Wrote (marked margined line money mark) at report.old result report.new }
 {
@@ -32,33 +32,25 @@ fn put_mark(
 }
 
 // The M lines of the margined trades, in sheet order.
-fn mark_lines(report: &mut [u8], tables: Tables, figures: Figures) -> Place
-    requires writable { Writable tables figures }
-    requires room { length (joined_up (from_rank (mark_text tables figures) tables.trades.count 0)) ≤ length report.old }
-    ensures { Wrote (joined_up (from_rank (mark_text tables figures) tables.trades.count 0)) 0 report.old result report.new }
+fn mark_lines(report: &mut [u8], tables: &Tables, figures: &Figures) -> Place
+    requires writable { Writable tables.now }
+    requires room { length (mark_texts tables.now figures.now) ≤ length report.old }
+    ensures { Wrote (mark_texts tables.now figures.now) 0 report.old result report.new }
 {
-    let trades = tables.trades;
-    let securities = tables.securities;
-    let numbers = securities.currencies.numbers;
-    let rows = securities.rows;
-    let marks = figures.marks; // cents
-    let first = 3 + tables.classes.count + tables.priorities.count + securities.count; // line
+    let securities = tables.securities.rows.as_slice();
+    let currencies = tables.securities.currencies.as_slice();
+    let first = 3 + tables.classes.len() + tables.priorities.len() + securities.len(); // line
     let mut at: Place = 0;
-    let mut i: usize = 0; // trades
-    while i < trades.count {
-        let trade = trades.rows[i];
-        let place = trade.security as usize; // among the securities
-        let security = rows[place];
-        let rank = security.currency as usize; // among the currencies
+    for (i, trade) in tables.trades.as_slice().iter().enumerate() {
+        let security = &securities[trade.security as usize];
         at = put_mark(
             report,
             at,
             trade.margined,
-            numbers[rank],
+            currencies[security.currency as usize],
             (first + i) as u64,
-            marks[i],
+            figures.marks[i],
         );
-        i += 1;
     }
     at
 }
@@ -70,9 +62,9 @@ fn put_position(
     full: bool, // or quiet
     money: Money,
     class: u64, // from 1
-    long: u64, // whole units
-    short: u64, // whole units
-    margin: u64, // whole units
+    long: Whole,
+    short: Whole,
+    margin: Whole,
 ) -> Place
     requires currency { money < 79_507 }
     requires room { at + length (listed_line full money class long short margin) ≤ length report.old }
@@ -91,21 +83,15 @@ fn position_lines(
     from: Place,
     full: bool, // or quiet
     money: Money,
-    classes: Classes,
-    figures: Currency,
+    classes: &Classes,
+    figures: &Currency,
 ) -> Place
-    requires classed { (money < 79_507) × Classed classes }
-    requires room { from + length (joined_up (from_rank (position_text full money classes figures) classes.count 0)) ≤ length report.old }
-    ensures { Wrote (joined_up (from_rank (position_text full money classes figures) classes.count 0)) from report.old result report.new }
+    requires classed { (money < 79_507) × Classed classes.now }
+    requires room { from + length (position_texts full money classes.now figures.now) ≤ length report.old }
+    ensures { Wrote (position_texts full money classes.now figures.now) from report.old result report.new }
 {
-    let rows = classes.rows;
-    let long = figures.long; // whole units
-    let short = figures.short; // whole units
-    let margins = figures.margins; // whole units
     let mut next = from;
-    let mut i: usize = 0; // classes
-    while i < classes.count {
-        let row = rows[i];
+    for (i, row) in classes.as_slice().iter().enumerate() {
         let class = row.class as usize;
         next = put_position(
             report,
@@ -113,11 +99,10 @@ fn position_lines(
             full,
             money,
             row.class,
-            long[class],
-            short[class],
-            margins[i],
+            figures.book.long[class],
+            figures.book.short[class],
+            figures.margins[i],
         );
-        i += 1;
     }
     next
 }
@@ -127,23 +112,17 @@ fn currency_lines(
     report: &mut [u8],
     from: Place,
     full: bool, // or quiet
-    tables: Tables,
-    figures: Figures,
+    tables: &Tables,
+    figures: &Figures,
 ) -> Place
-    requires writable { Writable tables figures }
-    requires room { from + length (joined_up (from_rank (currency_text full tables figures) tables.securities.currencies.count 0)) ≤ length report.old }
-    ensures { Wrote (joined_up (from_rank (currency_text full tables figures) tables.securities.currencies.count 0)) from report.old result report.new }
+    requires writable { Writable tables.now }
+    requires room { from + length (currency_texts full tables.now figures.now) ≤ length report.old }
+    ensures { Wrote (currency_texts full tables.now figures.now) from report.old result report.new }
 {
-    let classes = tables.classes;
-    let known = tables.securities.currencies;
-    let numbers = known.numbers;
-    let currencies = figures.currencies;
+    let known = tables.securities.currencies.as_slice();
     let mut at = from;
-    let mut r: usize = 0; // currencies
-    while r < known.count {
-        let currency = currencies[r];
-        let money = numbers[r];
-        let behind = position_lines(report, at, full, money, classes, currency);
+    for (&money, currency) in known.iter().zip(figures.currencies.as_slice()) {
+        let behind = position_lines(report, at, full, money, &tables.classes, currency);
         at = lines::total_line(
             report,
             behind,
@@ -152,7 +131,6 @@ fn currency_lines(
             currency.initial,
             currency.total,
         );
-        r += 1;
     }
     at
 }
@@ -161,12 +139,12 @@ fn currency_lines(
 pub fn write(
     report: &mut [u8],
     full: bool, // or quiet
-    tables: Tables,
-    figures: Figures,
+    tables: &Tables,
+    figures: &Figures,
 ) -> Place
-    requires writable { Writable tables figures }
-    requires room { length (report_text full tables figures) ≤ length report.old }
-    ensures { Wrote (report_text full tables figures) 0 report.old result report.new }
+    requires writable { Writable tables.now }
+    requires room { length (report_text full tables.now figures.now) ≤ length report.old }
+    ensures { Wrote (report_text full tables.now figures.now) 0 report.old result report.new }
 {
     let at = mark_lines(report, tables, figures);
     currency_lines(report, at, full, tables, figures)

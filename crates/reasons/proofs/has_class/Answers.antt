@@ -1,32 +1,24 @@
--- `reasons::has_class` meets its contract: no class of the table is above 40, and up to there it tells which are known.
-use Prim.Native.Nat.{ℕ, ◌<◌}
-use native.Mathlib.Omega.{arith}
-use mathlib.Core.Bool.{true, false}
-use mathlib.Core.List.{List, [], ◌∷◌, map}
-use mathlib.Core.Path.{◌≡◌, refl, sym, ap, ◌∙◌}
-use borrow.Author.Tests.{ne_eqb}
-use lib.ListN.{take}
-use Rattle.paper.specs.Lists.{between, every, first_that}
+-- `reasons::has_class` meets its contract: some row has the class exactly where the paper finds one.
+use Rattle.std.proofs.Common.{rules, ℕ, Bool, true, false, ◌||◌, List, ◌∷◌, map, eqb, ◌≡◌, refl}
+use Rattle.std.proofs.lemmas.List.Recursion.{or_is}
+use Rattle.paper.specs.Lists.{first_that}
 use Rattle.paper.specs.Refusals.{has_class}
-use Rattle.paper.proofs.Lists.{bounds, every_cons}
-use Rattle.tables.specs.Back.{paper_class, paper_classes}
+use Rattle.tables.specs.Back.{paper_class}
+use Rattle.tables.specs.Held.{no_class}
 use Rattle.tables.specs.declared.ClassRow.{ClassRow}
-use Rattle.priorities.proofs.Turns.{known_at}
 use Rattle.reasons.proofs.has_class.Goals as goal
 
--- No row has a class above 40
-none_above : (n : ℕ) → 40 < n → (cs : List ClassRow) → every (λ c. between 1 40 c.class) cs ≡ true → has_class (map paper_class cs) n ≡ false
-none_above n h [] e = refl
-none_above n h (c ∷ cs) e =
-    let (own, rest) = every_cons (λ c. between 1 40 c.class) c cs e in
-    rw (ne_eqb c.class n (λ same. omega (arith, (bounds 1 40 c.class own).1)), first_that) (none_above n h cs rest)
-
-pub returns-then-class-gt40 : goal.returns-then-class-gt40
-returns-then-class-gt40 c =
-    let a = c.args in
-    sym (none_above a.class c.if-class-gt40.true (take a.classes.count a.classes.rows) c.requires.1)
+-- Whether a row has a class, or one behind it
+first_or : (n : ℕ) (c : ClassRow) (cs : List ClassRow)
+    → has_class (map paper_class (c ∷ cs)) n ≡ (eqb c.class n || has_class (map paper_class cs) n)
+first_or n c cs = go (eqb c.class n) refl
+  where
+    go : (b : Bool) → eqb c.class n ≡ b → has_class (map paper_class (c ∷ cs)) n ≡ (eqb c.class n || has_class (map paper_class cs) n)
+    go true e = rw (e, first_that)
+    go false e = rw (e, first_that)
 
 pub returns : goal.returns
 returns c =
-    let cs = paper_classes c.args.classes in
-    rw c.known_classes-known.ensures (known_at 41 0 c.args.class cs (omega (arith, c.if-class-gt40.false)) ∙ ap (has_class cs) (omega arith))
+    or_is (λ cs. has_class (map paper_class cs) c.args.class) (λ row. eqb row.class c.args.class) refl (first_or c.args.class) c.args.classes.now no_class _
+    (search rules)
+    (search rules)

@@ -1,15 +1,16 @@
--- `report::currency_lines` meets its contract. The loop's invariant: the lines of the first `r` currencies are written. The measure is
--- the currencies left.
-use Prim.Native.Nat.{◌-◌, ◌≤◌}
-use lib.ListN.{get_or}
-use Rattle.lines.specs.Written.{Wrote}
-use Rattle.report.specs.Texts.{no_figures, lines_of}
-use Rattle.report.proofs.Loops.{texts}
+-- `report::currency_lines` meets its contract. The loop's invariant: the lines of the currencies before those left are written.
+use Rattle.std.proofs.Common.{◌<◌}
+use Rattle.std.specs.List.{zip}
+use Rattle.std.specs.Iterator.Adapters.{zip_first, zip_second}
+use Rattle.std.specs.Slice.Iter.{iter_rest}
+use Rattle.paper.specs.Lists.{Each}
+use Rattle.report.proofs.Loops.{Told}
+use Rattle.report.specs.Texts.{lines_of}
 use Rattle.report.proofs.currency_lines.Given as goal
 
-abbrev pub invariant-loop-r : goal.invariant-loop-r
-invariant-loop-r l =
-    (l.r ≤ l.known.count) × Wrote (texts (λ rank. lines_of l.full (get_or l.numbers rank 0) l.classes (get_or l.currencies rank no_figures)) l.r) l.from l.initial.report l.at l.report
-
-abbrev pub decreases-loop-r : goal.decreases-loop-r
-decreases-loop-r l = l.known.count - l.r
+abbrev pub invariant-loop-money : goal.invariant-loop-money
+invariant-loop-money l =
+    let numbers = iter_rest (zip_first l.money-iterator) in
+    let left = zip numbers (iter_rest (zip_second l.money-iterator)) in
+    Each (λ number. number < 79_507) numbers
+    × Told (lines_of l.full l.tables.classes) (zip l.tables.securities.currencies.items l.figures.currencies.items) left l.from l.initial.report l.at l.report
