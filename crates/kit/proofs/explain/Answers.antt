@@ -22,7 +22,7 @@ use Rattle.tables.specs.Held.{held_tables}
 use Rattle.tables.specs.declared.Tables.{Tables}
 use Rattle.lines.specs.Written.{Place, Wrote}
 use Rattle.reasons.specs.Texts.{asked_of, reason_text, Explainable}
-use Rattle.reasons.proofs.Paper.{askable, asked_there, asked_stands, explainable_held, text_held}
+use Rattle.reasons.proofs.Paper.{asked_there, asked_stands, explainable_held, text_held}
 use Rattle.kit.proofs.Answers.{stopped, Accepted, is_accepted, hands_back}
 use Rattle.kit.proofs.explain.Goals as goal
 
@@ -43,12 +43,6 @@ module _ (sheet buffer currency : Text) (class : Class) {read : Result Tables Re
 
     abbrev tables : paper.Tables
     tables = accepts.paper
-
-    -- What asking requires
-    can_ask : (known.securities.currencies.count ≤ 8) × (known.classes.count ≤ 40)
-    can_ask =
-        subst⁻¹ (λ (t : Tables). (t.securities.currencies.count ≤ 8) × (t.classes.count ≤ 40)) accepts.held
-        (askable tables accepts.admitted)
 
     module _ {asked : Option ℕ} (asked_is : asked ≡ asked_of known currency class) where
       -- What is found is what the paper's tables have
@@ -102,9 +96,6 @@ pub returns-in_err-tables-clause-small : goal.returns-in_err-tables-clause-small
 returns-in_err-tables-clause-small c =
     let (f, same, is) = err_from_is_err_and c.from_residual.result c.from_residual.ensures.1 in
     rw (same, is) ((stopped (length c.args.report.now) c.args.sheet.now c.read_sheet.ensures c.in_err-tables.was).small.1)
-
-pub asked-requires : goal.asked-requires
-asked-requires c = can_ask c.args.sheet.now c.args.report.now c.args.currency.now c.args.class c.read_sheet.ensures c.in_ok-tables.was
 
 pub returns-in_default-clause-answer : goal.returns-in_default-clause-answer
 returns-in_default-clause-answer c =
