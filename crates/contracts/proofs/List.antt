@@ -238,7 +238,7 @@ pub margin_figures_of_fixed : Fixes margin_figures_of.Post
 margin_figures_of_fixed κs a x y s u p q = one p q
 
 pub margin_opening_of_fixed : Fixes margin_opening_of.Post
-margin_opening_of_fixed κs a x y s u p q = one p q
+margin_opening_of_fixed κs a x y s u p q = one p.0 q.0
 
 pub lines_mark_line_fixed : FixesSeen lines_mark_line.Post {B = Place × Text} (λ κs x s. (x, s.0.now))
 lines_mark_line_fixed κs a x y s u p q = both p q

@@ -26,7 +26,7 @@ fn show_why(rt: &impl Env, sheet: &[u8], out: &mut [u8]) -> usize
     let mut digits_room = [0u8; 4096];
     let currency = given::word(rt.arg(1, &mut currency_room), &currency_room);
     let digits = given::word(rt.arg(2, &mut digits_room), &digits_room);
-    let class = fields::ranged_in(digits, 0, digits.len(), 1, 40);
+    let class = fields::number(digits, 1, 40).unwrap_or(0); // 0 for one that no sheet has
     shown::show_why(sheet, currency, class, out)
 }
 
