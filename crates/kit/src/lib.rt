@@ -30,9 +30,14 @@ fn report_on(
     ensures answer { (number_given result, report.new) ≡ kit all sheet.now report.old }
     ensures small { IfErr result (λ f. f.line ≤ 65_535) }
 {
-    let tables = sheet::read_sheet(sheet, report.len())?;
-    let figures = margin::figures_of(&tables);
-    Ok(report::write(report, all, &tables, &figures))
+    // Looked at where it stands: `?` would move the tables twice, and a call's stack is to stay below 256 KB.
+    match &sheet::read_sheet(sheet, report.len()) {
+        Ok(tables) => {
+            let figures = margin::figures_of(tables);
+            Ok(report::write(report, all, tables, &figures))
+        }
+        Err(refused) => Err(*refused),
+    }
 }
 
 // Why the margin of a class in a currency is what it is; gives the explanation's length.
@@ -45,14 +50,18 @@ fn explain(
     ensures answer { (number_given result, report.new) ≡ explainer currency.now class sheet.now report.old }
     ensures small { IfErr result (λ f. f.line ≤ 65_535) }
 {
-    let tables = sheet::read_sheet(sheet, report.len())?;
-    let Some(rank) = reasons::asked(&tables, currency, class) else {
-        return Err(Refused {
-            refusal: Refusal::Question,
-            line: 0,
-        });
-    };
-    Ok(reasons::write(report, &tables, rank, class as usize))
+    match &sheet::read_sheet(sheet, report.len()) {
+        Ok(tables) => {
+            let Some(rank) = reasons::asked(tables, currency, class) else {
+                return Err(Refused {
+                    refusal: Refusal::Question,
+                    line: 0,
+                });
+            };
+            Ok(reasons::write(report, tables, rank, class as usize))
+        }
+        Err(refused) => Err(*refused),
+    }
 }
 
 // The quiet report of a sheet: no K line has long, short and margin all zero.

@@ -120,6 +120,8 @@ fn openings_of(securities: &[Security], worths: &[SignedCents; 200]) -> [Book; 8
 }
 
 // The opening positions of the currency of a rank, with the worths that its securities' nets are rounded from.
+// Not inlined, so that its stack is free again behind it.
+#[inline(never)]
 pub fn opening_of(
     tables: &Tables,
     rank: usize, // currency
@@ -200,6 +202,8 @@ fn currency_of(
 }
 
 // The figures of an accepted sheet.
+// Not inlined, so that its stack is free again behind it.
+#[inline(never)]
 pub fn figures_of(tables: &Tables) -> Figures
     requires { TablesRanged tables.now }
     ensures { result ≡ figures_of tables.now }

@@ -78,6 +78,8 @@ fn broken(
 }
 
 // The O rows from a place on, with the place behind them. `end` is the place behind the last LF of the sheet.
+// Not inlined, so that its stack is free again behind it.
+#[inline(never)]
 pub fn priority_section(
     s: &[u8],
     from: Place,

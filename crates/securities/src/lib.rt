@@ -151,6 +151,8 @@ fn with_ranks(
 }
 
 // The S rows from a place on, with the place behind them. `end` is the place behind the last LF of the sheet.
+// Not inlined, so that its stack is free again behind it.
+#[inline(never)]
 pub fn security_section(
     s: &[u8],
     from: Place,

@@ -18,7 +18,7 @@ pub type Factor = u64; // ten-thousandths
 #[derive(Clone, Copy, Default)]
 pub struct ClassRow {
     pub class: u64, // 1..40
-    pub kind: u64, // 0 government, 1 corporate, 2 inflation linked, 3 floating
+    pub kind: u64, // 0 government, 1 corporate, 2 inflation linked, 3 floating; no enum: `classes::class_of` promises an answer for every number
     pub border: u64, // ten-thousandths of a year; 0 for a kind that has none
     pub deposit: Factor,
 }
@@ -79,8 +79,8 @@ pub struct Trade {
     pub first: u32, // day, from 1 January 2000
     pub accrual: u32, // day, from 1 January 2000
     pub security: u8, // its place among the S rows
-    pub trade: u8, // 0 repo, 1 cash
-    pub side: u8, // 0 seller, 1 purchaser
+    pub trade: u8, // 0 repo, 1 cash; no enum: `valuation::value_of` promises an answer for every number
+    pub side: u8, // 0 seller, 1 purchaser; the same
     pub margined: bool,
 }
 

@@ -22,8 +22,8 @@ use tables::{Code, Securities, Security, Trade, Trades};
 // What a T row says of its trade, but for its dates.
 #[derive(Clone, Copy)]
 struct Terms {
-    trade: u64, // 0 repo, 1 cash
-    side: u64, // 0 seller, 1 purchaser
+    trade: u64, // 0 repo, 1 cash; a number as in `tables::Trade`
+    side: u64, // 0 seller, 1 purchaser; the same
     number: Code,
     nominal: u64, // whole units
     amount: u64, // cents
@@ -175,6 +175,8 @@ fn judged(
 
 // The T rows from a place on, with the place behind them; `today` is the calculation day and `working` the first working day after
 // it. `end` is the place behind the last LF of the sheet.
+// Not inlined, so that its stack is free again behind it.
+#[inline(never)]
 pub fn trade_section(
     s: &[u8],
     from: Place,

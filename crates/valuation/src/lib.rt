@@ -68,8 +68,8 @@ pub fn interest(days: Days, amount: Cents, rate: Rate) -> SignedWhole
 
 // +1 for who is to receive the bond, -1 for who is to deliver it.
 pub fn sign_of(
-    trade: u8, // 0 repo, 1 cash
-    side: u8, // 0 seller, 1 purchaser
+    trade: u8, // 0 repo, 1 cash; no enum: what it promises, it promises for every number
+    side: u8, // 0 seller, 1 purchaser; the same
 ) -> Sign
     ensures { result ≡ sign_of (trade_of trade) (side_of side) }
 {

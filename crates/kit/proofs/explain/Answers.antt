@@ -13,7 +13,6 @@ use Rattle.paper.specs.Answer.{Answer, tables_of, has_both, ask_rules, explainer
 use Rattle.paper.proofs.Lengths.{explanation_fits}
 use Rattle.paper.proofs.Reasons.{explainer_answer}
 use Rattle.sheet.specs.Whole.{held_sheet}
-use Rattle.std.proofs.lemmas.Result.{err_from_is_err_and}
 use Rattle.answers.specs.Refusals.{number_of}
 use Rattle.answers.specs.declared.Refused.{Refused}
 use Rattle.std.proofs.Common.{Result, Ok, Err, Option, Some, None}
@@ -87,29 +86,25 @@ module _ (sheet buffer currency : Text) (class : Class) {read : Result Tables Re
             hands_back text buffer (subst (λ (t : Text). Wrote t 0 buffer written after) text_is w)
             ∙ sym (explainer_answer currency class sheet buffer (accepted text) (accepts.answers next ∙ rw (both, judged)))
 
-pub returns-in_err-tables-clause-answer : goal.returns-in_err-tables-clause-answer
-returns-in_err-tables-clause-answer c =
-    let (f, same, is) = err_from_is_err_and c.from_residual.result c.from_residual.ensures.1 in
-    rw (same, is) (refuses c.args.sheet.now c.args.report.now c.args.currency.now c.args.class c.read_sheet.ensures c.in_err-tables.was)
+pub returns-in-Err-clause-answer : goal.returns-in-Err-clause-answer
+returns-in-Err-clause-answer c = refuses c.args.sheet.now c.args.report.now c.args.currency.now c.args.class c.read_sheet.ensures c.in-Err.is
 
-pub returns-in_err-tables-clause-small : goal.returns-in_err-tables-clause-small
-returns-in_err-tables-clause-small c =
-    let (f, same, is) = err_from_is_err_and c.from_residual.result c.from_residual.ensures.1 in
-    rw (same, is) ((stopped (length c.args.report.now) c.args.sheet.now c.read_sheet.ensures c.in_err-tables.was).small.1)
+pub returns-in-Err-clause-small : goal.returns-in-Err-clause-small
+returns-in-Err-clause-small c = (stopped (length c.args.report.now) c.args.sheet.now c.read_sheet.ensures c.in-Err.is).small.1
 
 pub returns-in_default-clause-answer : goal.returns-in_default-clause-answer
 returns-in_default-clause-answer c =
-    lacks c.args.sheet.now c.args.report.now c.args.currency.now c.args.class c.read_sheet.ensures c.in_ok-tables.was c.asked.ensures c.in_default.is
+    lacks c.args.sheet.now c.args.report.now c.args.currency.now c.args.class c.read_sheet.ensures c.in-Ok.is c.asked.ensures c.in_default.is
 
 pub write-requires-clause-explainable : goal.write-requires-clause-explainable
 write-requires-clause-explainable c =
-    explainable c.args.sheet.now c.args.report.now c.args.currency.now c.args.class c.read_sheet.ensures c.in_ok-tables.was c.asked.ensures c.in-Some.is
+    explainable c.args.sheet.now c.args.report.now c.args.currency.now c.args.class c.read_sheet.ensures c.in-Ok.is c.asked.ensures c.in-Some.is
 
 pub write-requires-clause-room : goal.write-requires-clause-room
 write-requires-clause-room c =
-    room c.args.sheet.now c.args.report.now c.args.currency.now c.args.class c.read_sheet.ensures c.in_ok-tables.was c.asked.ensures c.in-Some.is
+    room c.args.sheet.now c.args.report.now c.args.currency.now c.args.class c.read_sheet.ensures c.in-Ok.is c.asked.ensures c.in-Some.is
 
-pub returns-clause-answer : goal.returns-clause-answer
-returns-clause-answer c =
-    answers c.args.sheet.now c.args.report.now c.args.currency.now c.args.class c.read_sheet.ensures c.in_ok-tables.was c.asked.ensures c.in-Some.is
+pub returns-in-Some-clause-answer : goal.returns-in-Some-clause-answer
+returns-in-Some-clause-answer c =
+    answers c.args.sheet.now c.args.report.now c.args.currency.now c.args.class c.read_sheet.ensures c.in-Ok.is c.asked.ensures c.in-Some.is
     c.write.result c.write.new.report c.write.ensures

@@ -11,7 +11,6 @@ use Rattle.paper.specs.Answer.{Answer, tables_of, kit}
 use Rattle.paper.proofs.Lengths.{report_fits}
 use Rattle.paper.proofs.Demands.{gives_answer}
 use Rattle.sheet.specs.Whole.{held_sheet}
-use Rattle.std.proofs.lemmas.Result.{err_from_is_err_and}
 use Rattle.answers.specs.Refusals.{number_of}
 use Rattle.answers.specs.declared.Refused.{Refused}
 use Rattle.std.proofs.Common.{Result, Ok, Err}
@@ -66,28 +65,24 @@ module _ (sheet buffer : Text) (listing : Listing) {read : Result Tables Refused
           hands_back (report_of listing accepts.paper) buffer (subst (λ (t : Text). Wrote t 0 buffer written after) text_is w)
           ∙ sym (gives_answer listing sheet buffer (accepted (report_of listing accepts.paper)) (accepts.answers next))
 
-pub returns-in_err-tables-clause-answer : goal.returns-in_err-tables-clause-answer
-returns-in_err-tables-clause-answer c =
-    let (f, same, is) = err_from_is_err_and c.from_residual.result c.from_residual.ensures.1 in
-    rw (same, is) (refuses c.args.sheet.now c.args.report.now c.args.all c.read_sheet.ensures c.in_err-tables.was)
+pub returns-in-Err-clause-answer : goal.returns-in-Err-clause-answer
+returns-in-Err-clause-answer c = refuses c.args.sheet.now c.args.report.now c.args.all c.read_sheet.ensures c.in-Err.is
 
-pub returns-in_err-tables-clause-small : goal.returns-in_err-tables-clause-small
-returns-in_err-tables-clause-small c =
-    let (f, same, is) = err_from_is_err_and c.from_residual.result c.from_residual.ensures.1 in
-    rw (same, is) ((stopped (length c.args.report.now) c.args.sheet.now c.read_sheet.ensures c.in_err-tables.was).small.1)
+pub returns-in-Err-clause-small : goal.returns-in-Err-clause-small
+returns-in-Err-clause-small c = (stopped (length c.args.report.now) c.args.sheet.now c.read_sheet.ensures c.in-Err.is).small.1
 
 pub figures_of-figures-requires : goal.figures_of-figures-requires
-figures_of-figures-requires c = ranged c.args.sheet.now c.args.report.now c.args.all c.read_sheet.ensures c.in_ok-tables.was
+figures_of-figures-requires c = ranged c.args.sheet.now c.args.report.now c.args.all c.read_sheet.ensures c.in-Ok.is
 
 pub write-requires-clause-writable : goal.write-requires-clause-writable
 write-requires-clause-writable c =
-    writable c.args.sheet.now c.args.report.now c.args.all c.read_sheet.ensures c.in_ok-tables.was c.figures_of-figures.result c.figures_of-figures.ensures
+    writable c.args.sheet.now c.args.report.now c.args.all c.read_sheet.ensures c.in-Ok.is c.figures_of-figures.result c.figures_of-figures.ensures
 
 pub write-requires-clause-room : goal.write-requires-clause-room
 write-requires-clause-room c =
-    room c.args.sheet.now c.args.report.now c.args.all c.read_sheet.ensures c.in_ok-tables.was c.figures_of-figures.result c.figures_of-figures.ensures
+    room c.args.sheet.now c.args.report.now c.args.all c.read_sheet.ensures c.in-Ok.is c.figures_of-figures.result c.figures_of-figures.ensures
 
-pub returns-clause-answer : goal.returns-clause-answer
-returns-clause-answer c =
-    answers c.args.sheet.now c.args.report.now c.args.all c.read_sheet.ensures c.in_ok-tables.was c.figures_of-figures.result c.figures_of-figures.ensures
+pub returns-in-Ok-clause-answer : goal.returns-in-Ok-clause-answer
+returns-in-Ok-clause-answer c =
+    answers c.args.sheet.now c.args.report.now c.args.all c.read_sheet.ensures c.in-Ok.is c.figures_of-figures.result c.figures_of-figures.ensures
     c.write.result c.write.new.report c.write.ensures
