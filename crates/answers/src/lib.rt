@@ -7,10 +7,10 @@ ghost use Rattle.answers.specs.Refusals.{number_of};
 
 pub type Number = u64; // of a refusal
 
-pub type Line = u64; // of a sheet or of a section
+pub type Line = u64; // of a sheet
 
 // Why a sheet is refused, or a question.
-#[derive(Clone, Copy, PartialEq, Eq)]
+#[derive(Clone, Copy)]
 pub enum Refusal {
     Room, // the report buffer is too small
     Length, // the sheet is too long
@@ -51,8 +51,8 @@ impl Refusal {
 }
 
 // A refusal and its line.
-#[derive(Clone, Copy, PartialEq, Eq)]
+#[derive(Clone, Copy)]
 pub struct Refused {
     pub refusal: Refusal,
-    pub line: Line, // counted as its section or its sheet counts
+    pub line: Line, // of the sheet, 0 where it has none
 }

@@ -21,14 +21,14 @@ use tables::{ClassRow, Classes};
 
 pub type Class = u64; // a class's number: 1 to 40
 
-pub type Kind = u64; // a kind's number: 0 government, 1 corporate, 2 inflation linked, 3 floating
+pub type Kind = u64; // a kind's number, as in `tables::ClassRow`: 0 government, 1 corporate, 2 inflation linked, 3 floating
 
 pub type Duration = u64; // a border, ten-thousandths of a year: 0 for a kind that has none
 
 // What the rows above tell.
 #[derive(Clone, Copy)]
 struct Seen {
-    last: Class, // of the row above; 0 where there is none
+    last: Class, // of the row above; 0, below every class, where there is none: an option would be opened at each comparison
     least: [Duration; 4], // for each kind, the least border that its next row may have: 0 while the kind has no row
 }
 

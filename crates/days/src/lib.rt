@@ -186,7 +186,7 @@ pub fn working_after(day: Day) -> Day
 {
     let mut d: Day = day + 1;
     let mut left: Days = 4; // days to test
-    let first: Day = loop {
+    let first: Day = loop { // as document 01 names it
         if left == 0 || is_open(d) {
             break d;
         }

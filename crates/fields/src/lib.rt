@@ -107,7 +107,7 @@ pub fn kind(text: &[u8]) -> Option<u64>
     }
 }
 
-// One of two letters by its number: 0 the first, 1 the second.
+// One of two letters by its number, as `tables::Trade` has it: 0 the first, 1 the second.
 pub fn letter(
     text: &[u8],
     zero: u8, // a byte

@@ -37,7 +37,7 @@ fn is_shown(
     rt: &(impl Env + Files),
     sheet: &[u8],
     text_place: usize, // among the arguments
-    full: bool, // or quiet
+    full: bool, // or quiet, as `shown` has it
 ) -> io::Result<bool> {
     let mut name_room = [0u8; 4096];
     let mut text_room = [0u8; 32768];

@@ -25,7 +25,7 @@ fn number(answer: Result<Place, Refused>) -> u64
 fn report_on(
     sheet: &[u8],
     report: &mut [u8],
-    all: bool, // the K lines, or those that are not of zeros
+    all: bool, // the K lines, or those that are not of zeros: a bool, as the paper's listing is
 ) -> Result<Place, Refused>
     ensures answer { (number_given result, report.new) ≡ kit all sheet.now report.old }
     ensures small { IfErr result (λ f. f.line ≤ 65_535) }

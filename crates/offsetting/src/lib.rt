@@ -11,7 +11,8 @@ use tables::{Factor, PriorityRow};
 
 pub type Whole = u64; // whole units
 
-// Positions of the classes in one currency, at the places of their numbers, 0..40.
+// Positions of the classes in one currency, at the places of their numbers, 0..40: two columns, as the paper's book has two lists.
+// Its bound (`BookFacts`) is no invariant: nets are added one by one, and only their sum keeps it.
 #[derive(Clone, Copy, Default)]
 pub struct Book {
     pub long: [Whole; 41],

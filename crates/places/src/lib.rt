@@ -11,7 +11,7 @@ pub type Place = usize; // in the sheet, in bytes from its start
 #[derive(Drop)]
 pub struct Line {
     pub count: usize, // fields
-    pub ends: [Place; 10], // fixed memory, so of the first ten alone
+    pub ends: [Place; 10], // of the first ten; no vector, since the count goes on past them
     pub next: Place,
 }
 
@@ -59,7 +59,7 @@ pub fn line_at(s: &[u8], at: Place, end: Place) -> Line
                 }
                 return Line {
                     count: count + 1,
-                    ends: ends,
+                    ends,
                     next: i + 1,
                 };
             }

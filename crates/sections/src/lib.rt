@@ -1,5 +1,7 @@
 // Sections of a sheet: whether one goes on at a line. What a row and a section answer, how a section's loop goes, and how a row's
 // fields are read, is said once, over the row kind, in specs and proofs.
+// A section's loop stands with its row kind: what judges a row and what is kept of those above differ in type and in what is lent, and
+// one loop over closures for both is no plainer. It goes by a place and counts no index.
 #![tactic(auto)]
 
 ghost use Rattle.std.specs.Prelude.{◌≡◌};

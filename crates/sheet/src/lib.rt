@@ -51,7 +51,7 @@ fn read_lines(s: &[u8]) -> Result<Tables, Refused>
         return Err(Refused { refusal, line: 1 });
     }
     let read = head::date_row(s);
-    let Ok((today, next)) = read else {
+    let Ok((today, next)) = read else { // as document 01 names it
         return Err(Refused {
             refusal: read.unwrap_err(),
             line: 2,

@@ -28,7 +28,7 @@ fn tell(
 fn ask(
     sheet: &[u8],
     out: &mut [u8],
-    full: bool, // or quiet
+    full: bool, // or quiet, as `kit` has it
 ) -> u64
     ensures { (result, out.new) ≡ kit full sheet.now out.old }
 {
@@ -44,7 +44,7 @@ fn ask(
 pub fn show(
     sheet: &[u8],
     out: &mut [u8],
-    full: bool, // or quiet
+    full: bool, // or quiet, as `kit` has it
 ) -> usize
     requires { 32_768 ≤ length out.old }
     ensures written { Wrote (shown_text (answer_by full (length out.old) sheet.now)) 0 out.old result out.new }

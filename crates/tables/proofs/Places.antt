@@ -3,15 +3,12 @@
 use Prim.Native.Nat.{ℕ, zero, suc, ◌≤◌, ◌<◌}
 use native.Mathlib.Omega.{arith}
 use mathlib.Core.Bool.{Bool, true, false}
-use mathlib.Core.List.{List, [], ◌∷◌, ◌++◌, map}
+use mathlib.Core.List.{List, [], ◌∷◌, map}
 use mathlib.Core.Option.{some, some-injective, none-ne-some}
 use mathlib.Core.Path.{◌≡◌, refl, sym, ap, ◌∙◌}
-use borrow.Author.Tests.{eq-eqb, ne_eqb, ltb-true, ltb-false}
-use lib.Dec.{T, eqb, ltb, eqb-suc-suc}
-use lib.ListN.{length, get_or, take, replicate}
-use Rattle.std.specs.Prelude.{Some, None}
-use Rattle.std.specs.Bool.{then_some}
-use Rattle.std.proofs.lemmas.Option.{same_Some, none-some}
+use borrow.Author.Tests.{eq-eqb, ne_eqb, ltb-true}
+use lib.Dec.{T, eqb, eqb-suc-suc}
+use lib.ListN.{length, get_or}
 use Rattle.paper.specs.Units.{Currency}
 use Rattle.paper.specs.Lists.{every, first_that, given, Each, nil, cons}
 use Rattle.paper.specs.Text.{same, before, is_currency}
@@ -23,10 +20,8 @@ use Rattle.paper.proofs.Lists.{tests, every_cons}
 use Rattle.paper.proofs.Order.{same_refl, Compared, first, equal, second, compared}
 use Rattle.paper.proofs.Rules.{security_facts}
 use Rattle.paper.proofs.Currencies.{placed_there, placed_first, placed_on, has_currency_lem, each_currency}
-use Rattle.tables.specs.Padded.{padded}
 use Rattle.tables.specs.Numbers.{code_number, currency_number, number_place}
 use Rattle.tables.specs.Held.{codes_of}
-use Rattle.tables.specs.Ranks.{found_place}
 use Rattle.tables.proofs.Numbers.{code_number_before, currency_number_before}
 
 -- An entry stands at a place of a list
@@ -85,25 +80,6 @@ module _ {A : Type 0} (P : A → Type 0) where
   each_any (cons p ps) other past zero = p
   each_any (cons p ps) other past (suc i) = each_any ps other past i
 
-  -- What is true at every place of a list and past it is true at every place of its front
-  front_any : (n : ℕ) (l : List A) (other : A) → P other → ((i : ℕ) → P (get_or l i other)) → (i : ℕ) → P (get_or (take n l) i other)
-  front_any zero l other past each i = past
-  front_any (suc n) [] other past each i = past
-  front_any (suc n) (a ∷ l) other past each zero = each 0
-  front_any (suc n) (a ∷ l) other past each (suc i) = front_any n l other past (λ j. each (suc j)) i
-
-  -- ... and of what stands for none, so many times, behind entries of which it is true
-  free_any : {none : A} {hs : List A} → Each P hs → P none → (free : ℕ) (other : A) → P other → (i : ℕ) → P (get_or (hs ++ replicate free none) i other)
-  free_any nil p zero other past i = past
-  free_any nil p (suc free) other past zero = p
-  free_any nil p (suc free) other past (suc i) = free_any nil p free other past i
-  free_any (cons q qs) p free other past zero = q
-  free_any (cons q qs) p free other past (suc i) = free_any qs p free other past i
-
-  -- So what is true of each entry and of what stands for none is true at every place of their table
-  pub padded_any : (most : ℕ) {none : A} {hs : List A} → Each P hs → P none → (other : A) → P other → (i : ℕ) → P (get_or (padded most none hs) i other)
-  padded_any most {none} {hs} each p other past = front_any most (hs ++ replicate most none) other past (free_any each p most other past)
-
 -- ---- numbers that rise
 
 -- Each number is above the one before it, and the first is not below a lowest
@@ -142,23 +118,6 @@ place_most (m ∷ ns) n = go (eqb m n) (place_most ns n)
     go : (b : Bool) → number_place ns n ≤ length ns → elim b [ true ↦ 0 | false ↦ suc (number_place ns n) ] ≤ suc (length ns)
     go true rest = omega arith
     go false rest = omega (arith, rest)
-
--- What is found is the place, and one of theirs
-pub place_found : (ns : List ℕ) (n place : ℕ) → found_place ns n ≡ Some place → (place ≡ number_place ns n) × (place < length ns)
-place_found ns n place = go (ltb (number_place ns n) (length ns)) refl
-  where
-    go : (b : Bool) → ltb (number_place ns n) (length ns) ≡ b → then_some b (number_place ns n) ≡ Some place
-        → (place ≡ number_place ns n) × (place < length ns)
-    go true l e = let same = same_Some (number_place ns n) place e in (sym same, omega (arith, ltb-true (number_place ns n) (length ns) l))
-    go false l e = absurd (none-some place e)
-
--- Where nothing is found, the place is behind them all
-pub place_missing : (ns : List ℕ) (n : ℕ) → found_place ns n ≡ None → number_place ns n ≡ length ns
-place_missing ns n = go (ltb (number_place ns n) (length ns)) refl
-  where
-    go : (b : Bool) → ltb (number_place ns n) (length ns) ≡ b → then_some b (number_place ns n) ≡ None → number_place ns n ≡ length ns
-    go true l e = absurd (none-some (number_place ns n) (sym e))
-    go false l e = omega (arith, place_most ns n, ltb-false (number_place ns n) (length ns) l)
 
 -- ---- currencies
 

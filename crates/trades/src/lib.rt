@@ -195,7 +195,7 @@ pub fn trade_section(
     while sections::goes_on(s, at, end, b'T') {
         let line = first as u64 + table.len() as u64; // of the sheet
         let read = trade_row(s, at, end);
-        let Ok((row, next)) = read else {
+        let Ok((row, next)) = read else { // as document 01 names it
             return Err(Refused {
                 refusal: read.unwrap_err(),
                 line,

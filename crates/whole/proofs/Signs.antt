@@ -4,7 +4,7 @@
 use Prim.Native.Nat.{ℕ, ◌≤◌, ◌<◌, ◌^◌}
 use native.Mathlib.Nat.{le_refl, lt_of_le_of_lt}
 use native.Mathlib.Omega.{arith}
-use mathlib.Core.Path.{◌≡◌, sym, ap, ◌∙◌, subst}
+use mathlib.Core.Path.{◌≡◌, sym, ap, ap₂, ◌∙◌, subst}
 use mathlib.Core.Bool.{Bool, true, false, true≢false, false≢true}
 use lib.Dec.{leb-suc-zero}
 use lib.IntN.{ℤ, pos, negsuc, nat_abs}
@@ -29,6 +29,10 @@ fits z h = record { sfits = lt_of_le_of_lt (mag_le_size z) h }
 -- A number that is known is read back as it is
 pub read_back : {r : ℤ} (z : ℤ) → r ≡ z → nat_abs z < 2 ^ 63 → to_z w64 (of_z w64 r) ≡ z
 read_back z e small = ap (λ (x : ℤ). to_z w64 (of_z w64 x)) e ∙ to_z-of_z w64 z (fits z small)
+
+-- So is what an operation makes of two numbers that are known
+pub carried : (op : ℤ → ℤ → ℤ) {a b r : ℤ} (x y : ℤ) → a ≡ x → b ≡ y → r ≡ op a b → nat_abs (op x y) < 2 ^ 63 → to_z w64 (of_z w64 r) ≡ op x y
+carried op x y p q e small = read_back (op x y) (e ∙ ap₂ op p q) small
 
 -- ---- the sign's test
 
