@@ -221,7 +221,7 @@ module _ (t : Tables) (admitted : Admitted t) where
             (each_map
             (λ r known.
             record {
-              security = omega (arith, stands_low known.stands, length-map t.securities (held_security t.classes (currencies t.securities)));
+              security = omega (arith, stands_low known.stands, facts.few_securities);
               currency = rw (security_held t admitted known.stands) (rank_low known.stands);
               ranged = λ m. (trade_ranged r known m, rw (security_held t admitted known.stands) (security_ranged r known m));
             })

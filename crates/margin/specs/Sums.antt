@@ -1,5 +1,5 @@
 -- The trades of a sheet, valued and summed by security and by currency, as the code holds them.
-use Rattle.std.specs.Prelude.{ℕ, ◌<◌, true, List, [], ◌∷◌, map, ◌≡◌, pos, ◌+ℤ◌, length, get_or, set, replicate}
+use Rattle.std.specs.Prelude.{ℕ, ◌<◌, true, List, [], ◌∷◌, map, ◌≡◌, pos, ◌+ℤ◌, get_or, set, replicate}
 use Rattle.tables.specs.Padded.{padded}
 use Rattle.tables.specs.Held.{no_security}
 use Rattle.tables.specs.declared.Security.{Security}
@@ -32,8 +32,8 @@ sums_of ss ts =
       totals = gathered ◌+ℤ◌ (pos 0) 8 (λ t. (security_in ss t).currency) (λ t. (value_in ss t).mark) ts;
     }
 
--- A trade whose security is one of the rows and whose currency has a place, within the ranges of the rules where it is margined
+-- A trade whose security and currency have a place, within the ranges of the rules where it is margined
 pub record Placed (ss : List Security) (t : Trade) : Type 0 where
-  pub security : t.security < length ss
+  pub security : t.security < 200
   pub currency : (security_in ss t).currency < 8
   pub ranged : t.margined ≡ true → Ranged t × Quoted (security_in ss t) t.accrual

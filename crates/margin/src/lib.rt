@@ -70,7 +70,7 @@ fn add_to(
 
 // The trades valued and summed, from the last to the first.
 fn sums_of(trades: &[Trade], securities: &[Security]) -> Sums
-    requires { (length trades.now ≤ 500) × (length securities.now ≤ 200) × Each (Placed securities.now) trades.now }
+    requires { (length trades.now ≤ 500) × Each (Placed securities.now) trades.now }
     ensures { result ≡ sums_of securities.now trades.now }
 {
     let mut sums = Sums {
@@ -81,7 +81,7 @@ fn sums_of(trades: &[Trade], securities: &[Security]) -> Sums
     // By index: a mark is written where its trade stands.
     for i in (0..trades.len()).rev() {
         let place = trades[i].security as usize; // among the securities
-        let security = securities[place];
+        let security = securities.get(place).copied().unwrap_or_default(); // zeros behind the rows
         let valued = valuation::value_of(trades[i], security);
         sums.marks[i] = valued.mark;
         add_to(&mut sums.worths, place, valued.worth);
