@@ -78,7 +78,7 @@ fn sums_of(trades: &[Trade], securities: &[Security]) -> Sums
         worths: [0; 200],
         totals: [0; 8],
     };
-    // By index: a mark is written where its trade stands.
+    // By index: backwards over an iterator, an invariant has the items so far and no place to write a mark at.
     for i in (0..trades.len()).rev() {
         let place = trades[i].security as usize; // among the securities
         let security = securities.get(place).copied().unwrap_or_default(); // zeros behind the rows
@@ -159,7 +159,7 @@ fn margins_of(classes: &[ClassRow], book: &Book) -> Margins
         each: [0; 40],
         initial: 0,
     };
-    // By index: a margin is written where its row stands.
+    // By index: backwards over an iterator, an invariant has the items so far and no place to write a margin at.
     for i in (0..classes.len()).rev() {
         let margin = margin_of(classes[i], book); // whole units
         margins.each[i] = margin;
@@ -219,6 +219,7 @@ pub fn figures_of(tables: &Tables) -> Figures
     } = sums_of(trades, securities);
     let openings = openings_of(securities, &worths);
     let mut currencies = ArrayVec::new();
+    // By rank: openings and totals have places that no currency has.
     for rank in 0..tables.securities.currencies.len() {
         currencies.push(currency_of(openings[rank], classes, priorities, totals[rank]));
     }
