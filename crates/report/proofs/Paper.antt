@@ -25,7 +25,7 @@ use Rattle.tables.specs.Numbers.{currency_number}
 use Rattle.tables.specs.Held.{no_class, no_trade, held_class, held_priority, held_security, held_tables}
 use Rattle.tables.specs.declared.ClassRow.{ClassRow}
 use Rattle.tables.proofs.Numbers.{currency_number_low}
-use Rattle.tables.proofs.Places.{Stands, here, there, stands_low, stands_each, each_standing, stands_made, currency_stands}
+use Rattle.tables.proofs.Places.{Stands, here, there, stands_each, stands_made, currency_stands}
 use Rattle.margin.specs.Openings.{from_rank}
 use Rattle.margin.specs.Held.{mark_of, held_currency, held_figures}
 use Rattle.margin.proofs.Forwards.{ranks_made}
@@ -160,14 +160,7 @@ module _ (t : Tables) (admitted : Admitted t) where
   -- The report of admitted tables can be written
   pub writable_held : Writable (held_tables t)
   writable_held =
-      let cs = currencies t.securities in
-      let places = held_security t.classes cs in
       record {
         classes = each_made held_class t.classes (each_map (λ c f. f.high) facts.classes);
-        securities =
-            each_made (trade_in t) t.trades (each_map (λ r known. omega (arith, stands_low known.stands, length-map t.securities places)) (trades_known t admitted));
-        currencies =
-            each_made places t.securities
-            (each_standing t.securities (λ k s at. omega (arith, stands_low (currency_stands at (rising_currencies t admitted)), length-map cs currency_number)));
-        money = each_made currency_number cs (each_map currency_number_low names);
+        money = each_made currency_number (currencies t.securities) (each_map currency_number_low names);
       }

@@ -74,9 +74,7 @@ report_text listing t f = mark_texts t f ++ currency_texts listing t f
 abbrev pub Classed : ArrayVec ClassRow → Type 0
 Classed cs = Each (λ row. row.class ≤ 40) cs.items
 
--- What writing asks: tables that stand in their places
+-- What writing asks: classes that have their places, and currencies with numbers of three letters
 pub record Writable (t : Tables) : Type 0 where
   pub classes : Classed t.classes
-  pub securities : Each (λ trade. trade.security < length t.securities.rows.items) t.trades.items
-  pub currencies : Each (λ row. row.currency < length t.securities.currencies.items) t.securities.rows.items
   pub money : Each (λ number. number < 79_507) t.securities.currencies.items

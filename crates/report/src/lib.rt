@@ -12,7 +12,7 @@ use offsetting::Whole;
 use tables::{Classes, Money, Tables};
 use valuation::SignedCents;
 
-// The M line of a trade, where it is margined.
+// The M line of a trade, where it is margined. A flag, since one that is not has a mark too, 0.
 fn put_mark(
     report: &mut [u8],
     at: Place,
@@ -42,12 +42,18 @@ fn mark_lines(report: &mut [u8], tables: &Tables, figures: &Figures) -> Place
     let first = 3 + tables.classes.len() + tables.priorities.len() + securities.len(); // line
     let mut at: Place = 0;
     for (i, trade) in tables.trades.as_slice().iter().enumerate() {
-        let security = &securities[trade.security as usize];
+        let security = securities
+            .get(trade.security as usize)
+            .copied()
+            .unwrap_or_default();
         at = put_mark(
             report,
             at,
             trade.margined,
-            currencies[security.currency as usize],
+            currencies
+                .get(security.currency as usize)
+                .copied()
+                .unwrap_or_default(),
             (first + i) as u64,
             figures.marks[i],
         );
@@ -59,7 +65,7 @@ fn mark_lines(report: &mut [u8], tables: &Tables, figures: &Figures) -> Place
 fn put_position(
     report: &mut [u8],
     at: Place,
-    full: bool, // or quiet
+    full: bool, // or quiet, as `kit` has it
     money: Money,
     class: u64, // from 1
     long: Whole,
@@ -81,7 +87,7 @@ fn put_position(
 fn position_lines(
     report: &mut [u8],
     from: Place,
-    full: bool, // or quiet
+    full: bool, // or quiet, as `kit` has it
     money: Money,
     classes: &Classes,
     figures: &Currency,
@@ -111,7 +117,7 @@ fn position_lines(
 fn currency_lines(
     report: &mut [u8],
     from: Place,
-    full: bool, // or quiet
+    full: bool, // or quiet, as `kit` has it
     tables: &Tables,
     figures: &Figures,
 ) -> Place
@@ -138,7 +144,7 @@ fn currency_lines(
 // The whole report, from the buffer's start; gives its length.
 pub fn write(
     report: &mut [u8],
-    full: bool, // or quiet
+    full: bool, // or quiet, as `kit` has it
     tables: &Tables,
     figures: &Figures,
 ) -> Place
