@@ -4,7 +4,7 @@
  * - sheet can be read for sheet_len bytes, currency for currency_len, and report written for report_len bytes; where a length
  *   is 0, any address will do;
  * - report overlaps with neither of the others, and nothing else writes to any of them while the call lasts;
- * - a call takes 250,000 bytes of stack. A thread with less is ended by the operating system, so give one that calls the kit
+ * - a call takes 203,000 bytes of stack. A thread with less is ended by the operating system, so give one that calls the kit
  *   256 KB or more.
  * The kit keeps nothing between calls: any number of threads may call it at once. It calls memcpy, memmove and memset alone.
  */

@@ -7,10 +7,13 @@ import { load } from './kit.js';
 const ROOM = 32768; // bytes
 const PAGE = 65536; // bytes
 const PAINT = 0xa5; // what the stack holds before the first call
+const STACK = 1048576; // bytes, at the bottom of the memory, as hosts/build has it; the constants stand behind it
 
 const kit = await load(readFileSync(new URL('kit.wasm', import.meta.url)));
-const stack = () => new Uint8Array(kit.memory.buffer, 0, kit.base);
+const stack = () => new Uint8Array(kit.memory.buffer, 0, STACK);
+const constants = () => new Uint8Array(kit.memory.buffer, STACK, kit.base - STACK);
 stack().fill(PAINT);
+const constantsBefore = constants().slice();
 
 // What memory and buffers hold before a call: no byte that a report has, from another start in each case
 const pattern = Uint8Array.from({ length: 64 * PAGE }, (_, at) => 128 | ((at * 37) ^ (at >> 8)));
@@ -213,8 +216,8 @@ async function trap() {
 
 // What the deepest call so far took of the stack, in bytes; half of it is to stay free
 function deepest() {
-    const used = kit.base - stack().findIndex((byte) => byte !== PAINT);
-    assert.ok(used <= kit.base / 2, `a call took ${used} bytes of a stack of ${kit.base}`);
+    const used = STACK - stack().findIndex((byte) => byte !== PAINT);
+    assert.ok(used <= STACK / 2, `a call took ${used} bytes of a stack of ${STACK}`);
     return used;
 }
 
@@ -224,8 +227,9 @@ const { sheets, questions } = generated(process.argv[2]);
 borders();
 wrongWords();
 await trap();
+same(constants(), constantsBefore, 'the constants');
 const told = ([accepted, ...refusals]) =>
     [`accepted ${accepted}`, ...refusals.map((count, at) => `refused ${at + 1}: ${count}`)].join(', ');
 console.log(`kit.wasm: ${written} cases, quiet and full, and ${asked} questions; generated sheets: ${told(sheets)}`);
 console.log(`kit.wasm: generated questions: ${told(questions)}`);
-console.log(`kit.wasm: every byte as expected; the deepest call took ${deepest()} of ${kit.base} bytes of stack`);
+console.log(`kit.wasm: every byte as expected; the deepest call took ${deepest()} of ${STACK} bytes of stack`);
