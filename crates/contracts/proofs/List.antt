@@ -38,6 +38,7 @@ use Rattle.fields.proofs.letter.Reads as fields_letter
 use Rattle.codes.proofs.code.Reads as codes_code
 use Rattle.codes.proofs.currency.Reads as codes_currency
 use Rattle.places.proofs.Line.field.Reads as places_Line_field
+use Rattle.places.proofs.Line.is_blank.Reads as places_Line_is_blank
 use Rattle.sections.proofs.goes_on.Reads as sections_goes_on
 use Rattle.classes.proofs.class_section.Reads as classes_class_section
 use Rattle.classes.proofs.class_of.Reads as classes_class_of
@@ -176,6 +177,9 @@ codes_currency_fixed κs a x y s u p q = one p q
 
 pub places_Line_field_fixed : FixesSeen places_Line_field.Post (λ κs x s. x.now)
 places_Line_field_fixed κs a x y s u p q = one p q
+
+pub places_Line_is_blank_fixed : Fixes places_Line_is_blank.Post
+places_Line_is_blank_fixed κs a x y s u p q = one p q
 
 pub sections_goes_on_fixed : Fixes sections_goes_on.Post
 sections_goes_on_fixed κs a x y s u p q = one p q

@@ -9,13 +9,13 @@ use mathlib.Core.Path.{◌≡◌, refl, sym, ap, ◌∙◌}
 use borrow.Author.Tests.{eqb-true, eqb-false, eq-eqb, ne_eqb}
 use lib.Dec.{eqb}
 use lib.ListN.{length, get_or, take, drop, replicate, length-append, length-drop, get_or-append, drop_of_length-le}
-use lib.Seq.{slice, take-add, take-append_seam, length-take-le, drop-cons, drop-drop, drop_at, drop-append-add, get_or-take}
+use lib.Seq.{slice, length-slice, take-add, take-append_seam, length-take-le, drop-cons, drop-drop, drop_at, drop-append-add, get_or-take}
 use Rattle.paper.specs.Units.{Byte, Text, Fields}
 use Rattle.paper.specs.Lists.{every}
-use Rattle.paper.specs.Text.{LF, semicolon, pieces, lines_of, lines, parted, line_of}
+use Rattle.paper.specs.Text.{LF, semicolon, same, pieces, lines_of, lines, parted, line_of}
 use Rattle.paper.proofs.Lists.{every_step, every_cons}
 use Rattle.paper.proofs.Lines.{plain, filled, line_first}
-use Rattle.places.specs.Places.{Place, ended_length, ends_from, last_place, line_at}
+use Rattle.places.specs.Places.{Place, ended_length, ends_from, last_place, line_at, field_text, Stands}
 
 -- ---- the last LF
 
@@ -48,6 +48,11 @@ ended_append (b ∷ t) r = go (front b (t ++ (LF ∷ r))) (ended_append t r)
     go (behind n e k) h = omega arith
     go (itself l e k) h = absurd (omega arith)
     go (nowhere l e k) h = absurd (omega arith)
+
+-- A last byte that is no LF changes nothing
+pub ended_other : (t : Text) (b : Byte) → (b ≡ LF → ⊥) → ended_length (t ++ (b ∷ [])) ≡ ended_length t
+ended_other [] b n = rw (ne_eqb b LF n)
+ended_other (c ∷ t) b n = rw (ended_other t b n, ended_length)
 
 -- No byte is an LF; a byte is one, and none behind it is
 pub ended_none : (t : Text) → ((k : ℕ) → k < length t → get_or t k 0 ≡ LF → ⊥) → 0 ≡ ended_length t
@@ -336,3 +341,17 @@ line_there s at h =
           let size : k < length (ends_of at fs) = rw (length_ends at fs) p in
           rw (c.ends, kept (ends_of at fs) k size q, kept_start at (ends_of at fs) k size q) (field_in s c.rest at fs c.whole k p);
     }
+
+-- A field is blank where it starts at its end
+pub blank_field : (s : Text) (ends : List Place) (k : ℕ) → Stands s ends k
+    → eqb (get_or ends k 0 + 1) (get_or ends (k + 1) 0) ≡ same (field_text s ends k) []
+blank_field s ends k h = go (eqb (get_or ends k 0 + 1) (get_or ends (k + 1) 0)) refl (field_text s ends k) refl
+  where
+    size : length (field_text s ends k) ≡ get_or ends (k + 1) 0 - (get_or ends k 0 + 1)
+    size = length-slice (get_or ends k 0 + 1) (get_or ends (k + 1) 0) s h.inside
+
+    go : (b : Bool) → eqb (get_or ends k 0 + 1) (get_or ends (k + 1) 0) ≡ b → (t : Text) → field_text s ends k ≡ t → b ≡ same t []
+    go true e [] i = refl
+    go false e (x ∷ t) i = refl
+    go true e (x ∷ t) i = absurd (omega (arith, size, ap length i, eqb-true (get_or ends k 0 + 1) (get_or ends (k + 1) 0) e))
+    go false e [] i = absurd (eqb-false (get_or ends k 0 + 1) (get_or ends (k + 1) 0) e (omega (arith, size, ap length i, h.ordered)))

@@ -1,7 +1,7 @@
 // Lines and fields by their places: a line of a lent sheet is looked through once, for where its fields end.
 #![tactic(auto)]
 
-ghost use Rattle.std.specs.Prelude.{◌≡◌, ◌-◌, ◌≤◌, ◌<◌, length, get_or};
+ghost use Rattle.std.specs.Prelude.{◌≡◌, ◌+◌, ◌-◌, ◌≤◌, ◌<◌, eqb, length, get_or};
 ghost use Rattle.paper.specs.Text.{LF};
 ghost use Rattle.places.specs.Places.{ended_length, line_at, field_text, Stands};
 
@@ -26,6 +26,17 @@ impl Line {
         ensures { result.now ≡ field_text s.now self.now.ends k }
     {
         &s[self.ends[k] + 1..self.ends[k + 1]]
+    }
+
+    // Whether a field is blank.
+    pub fn is_blank(
+        &self,
+        k: usize, // fields behind the letter
+    ) -> bool
+        requires { (k < 9) × (get_or self.now.ends k 0 < 18446744073709551615) }
+        ensures { result ≡ eqb (get_or self.now.ends k 0 + 1) (get_or self.now.ends (k + 1) 0) }
+    {
+        self.ends[k] + 1 == self.ends[k + 1]
     }
 }
 
