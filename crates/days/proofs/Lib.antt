@@ -1,2 +1,3 @@
+pub mod Answers
 mod Months
 mod Years
