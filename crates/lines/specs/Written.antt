@@ -15,6 +15,18 @@ written text at buffer = take at buffer ++ (text ++ drop (at + length text) buff
 abbrev pub Wrote : Text → Place → Text → Place → Text → Type 0
 Wrote text at buffer next after = (next ≡ at + length text) × (after ≡ written text at buffer)
 
+-- The two digits of a number below a hundred
+abbrev pub pair : ℕ → Text
+pair n = (48 + n / 10) ∷ (48 + n % 10) ∷ []
+
+-- The four digits of a number below ten thousand
+abbrev pub four : ℕ → Text
+four n = pair (n / 100) ++ pair (n % 100)
+
+-- The eight digits of a number below a hundred million
+abbrev pub eight : ℕ → Text
+eight n = four (n / 10_000) ++ four (n % 10_000)
+
 -- The three letters of a currency, by its number
 abbrev pub money_text : ℕ → Currency
 money_text n = (48 + n / 1849) ∷ (48 + n / 43 % 43) ∷ (48 + n % 43) ∷ []
