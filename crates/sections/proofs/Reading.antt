@@ -305,6 +305,62 @@ module _ {R A : Type 0} (end : Option R → Option A) (ends : end none ≡ none)
       joint good (or_blank number_in t) (is_duration kind) (λ d. Option.get_or d 0) next then goes
       ∙ ap (λ (o : Option ℕ). gated good (o >>= then)) (duration_held kind t)
 
+-- ---- a row of three numbers, each from a lowest to a highest
+
+module _ {R H : Type 0} (held : R → H) (kind : RowKind R) (make : ℕ → ℕ → ℕ → R) (l1 h1 l2 h2 l3 h3 : ℕ)
+    (many : kind.many ≡ 4)
+    (reads : (fs : Fields) → kind.read fs ≡ (number_in (field 1 fs) >>= λ a. number_in (field 2 fs) >>= λ b. number_in (field 3 fs) >>= λ c. some (make a b c)))
+    (six : R → Bool) (owns : (r : R) → kind.own r ≡ (6, six r) ∷ [])
+    (sixes : (a b c : ℕ) → six (make a b c) ≡ (between l1 h1 a && between l2 h2 b && between l3 h3 c)) where
+  -- The row by three texts
+  abbrev pub three_from : Text → Text → Text → Option H
+  three_from first second third =
+      ranged_in l1 h1 first >>= λ a. ranged_in l2 h2 second >>= λ b. ranged_in l3 h3 third >>= λ c. some (held (make a b c))
+
+  -- By the texts of its fields, one field after the other
+  three_fields : (fs : Fields) → map held (kind.read fs >>= λ r. when (six r) r) ≡ three_from (field 1 fs) (field 2 fs) (field 3 fs)
+  three_fields fs =
+      let end : Option R → Option H = λ o. map held (o >>= λ r. when (six r) r) in
+      ap end (reads fs)
+      ∙ (ranged end refl true l1 h1 (field 1 fs) _ _ λ a.
+      ranged end refl (between l1 h1 a) l2 h2 (field 2 fs) _ _ λ b.
+      ranged end refl (between l1 h1 a && between l2 h2 b) l3 h3 (field 3 fs) _ _ λ c. last a b c)
+    where
+      last : (a b c : ℕ)
+          → map held (when (six (make a b c)) (make a b c))
+          ≡ gated ((between l1 h1 a && between l2 h2 b) && between l3 h3 c) (some (held (make a b c)))
+      last a b c = rw (sixes a b c) (go (between l1 h1 a) (between l2 h2 b) (between l3 h3 c))
+        where
+          go : (x y z : Bool) → map held (when (x && y && z) (make a b c)) ≡ gated ((x && y) && z) (some (held (make a b c)))
+          go true true true = refl
+          go true true false = refl
+          go true false z = refl
+          go false y z = refl
+
+  -- What is answered where fields gave a row, or none
+  abbrev pub handed : Place → answers.Option H → Result (H × Place) Refusal
+  handed next None = Err (refusal 6)
+  handed next (Some h) = Ok (h, next)
+
+  -- By what was read of its fields
+  pub three_there : (s : Text) (at : Place) (line : Line) → Lined s at line 4 → {read : answers.Option H}
+      → read ≡ answer (three_from (field_text s line.ends 0) (field_text s line.ends 1) (field_text s line.ends 2))
+      → handed line.next read ≡ read_as held (line_at s at).next (shaped kind (fields_at s at))
+  three_there s at line l {read} is = ap (λ (l : Line). handed l.next read) l.same ∙ go read refl
+    where
+      next : Place
+      next = (line_at s at).next
+
+      whole : answer (map held (kind.read (fields_at s at) >>= λ r. when (six r) r)) ≡ read
+      whole =
+          ap answer
+          (three_fields (fields_at s at) ∙ (λ i. three_from (l.parts 0 (omega arith) i) (l.parts 1 (omega arith) i) (l.parts 2 (omega arith) i)))
+          ∙ sym is
+
+      go : (o : answers.Option H) → read ≡ o → handed next o ≡ read_as held next (shaped kind (fields_at s at))
+      go None e = fields_none held next kind (fields_at s at) (l.count ∙ sym many) six owns whole e
+      go (Some h) e = fields_some held next kind (fields_at s at) (l.count ∙ sym many) six owns whole e
+
 -- ---- two dates
 
 -- Two days, the second so many days after the first at most
