@@ -5,7 +5,9 @@ use native.Mathlib.Omega.{arith}
 use mathlib.Core.List.{List, [], ◌∷◌, ◌++◌, map}
 use mathlib.Core.Path.{◌≡◌, refl, sym, ap, ap₂, ◌∙◌}
 use lib.ListN.{length}
+use lib.Seq.{take_at}
 use Rattle.paper.specs.Lists.{Each, nil, cons}
+use Rattle.tables.specs.Padded.{padded}
 use Rattle.tables.proofs.Places.{Stands, here, there}
 use Rattle.margin.specs.Openings.{from_rank}
 
@@ -52,3 +54,8 @@ module _ {A : Type 0} (make : ℕ → A) where
       let same : 0 + rank ≡ rank = omega arith in
       ap₂ (λ (l : List A) (b : A). l ++ (b ∷ [])) e (is ∙ ap make (sym same)) ∙ sym (ranks_more rank 0)
       ∙ ap (λ (n : ℕ). from_rank make n 0) (sym (add-one rank))
+
+  -- ... and all of them: a column filled to its last place
+  module _ (most : ℕ) (none : A) where
+    pub ranks_all : (rank : ℕ) → rank ≡ most → padded most none (from_rank make rank 0) ≡ from_rank make most 0
+    ranks_all rank all = rw all (take_at (from_rank make most 0) _ most (ranks_many most 0))

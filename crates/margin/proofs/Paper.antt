@@ -40,7 +40,7 @@ use Rattle.valuation.specs.declared.Valued.{Valued}
 use Rattle.offsetting.specs.Books.{row_of}
 use Rattle.margin.specs.Sums.{security_in, value_in}
 use Rattle.margin.specs.Openings.{Net, from_rank, net_at, nets_of}
-use Rattle.margin.specs.Figures.{margin_in, trade_sums, opening_book, currency_at, figures_of, TablesRanged}
+use Rattle.margin.specs.Figures.{margin_in, trade_sums, opening_book, currency_at, figures_of, TablesRanged, TablesFew}
 use Rattle.margin.specs.Held.{mark_of, held_currency, held_figures}
 use Rattle.margin.specs.declared.Currency.{Currency}
 use Rattle.margin.proofs.Forwards.{ranks_made}
@@ -207,23 +207,36 @@ module _ (t : Tables) (admitted : Admitted t) where
   pub rank_low : {s : SecurityRow} {k : ℕ} → Stands s t.securities k → (ranked_net t s).rank < 8
   rank_low at = omega (arith, stands_low (currency_stands at rising_currencies), currencies_few)
 
-  -- The tables are within the ranges that margining asks for
-  pub tables_ranged : TablesRanged (held_tables t)
-  tables_ranged =
-      record {
-        classes = each_made held_class t.classes (each_map (λ c f. record { class = f.high; deposit = f.deposit }) facts.classes);
-        priorities = each_made held_priority t.priorities facts.priorities;
-        securities =
-            each_made (held_security t.classes (currencies t.securities)) t.securities
-            (each_standing t.securities (λ k s at. record { class = class_most t.classes facts.classes s.kind s.duration; currency = rank_low at }));
-        trades =
-            each_made (trade_in t) t.trades
-            (each_map
-            (λ r known.
-            record {
-              security = omega (arith, stands_low known.stands, facts.few_securities);
-              currency = rw (security_held t admitted known.stands) (rank_low known.stands);
-              ranged = λ m. (trade_ranged r known m, rw (security_held t admitted known.stands) (security_ranged r known m));
-            })
-            (trades_known t admitted));
-      }
+  -- The tables are within the ranges that margining asks for, and have no more rows than the rules let through
+  pub tables_ranged : TablesRanged (held_tables t) × TablesFew (held_tables t)
+  tables_ranged = (ranged, few)
+    where
+      ranged : TablesRanged (held_tables t)
+      ranged =
+          record {
+            classes = each_made held_class t.classes (each_map (λ c f. record { class = f.high; deposit = f.deposit }) facts.classes);
+            priorities = each_made held_priority t.priorities facts.priorities;
+            securities =
+                each_made (held_security t.classes (currencies t.securities)) t.securities
+                (each_standing t.securities (λ k s at. record { class = class_most t.classes facts.classes s.kind s.duration; currency = rank_low at }));
+            trades =
+                each_made (trade_in t) t.trades
+                (each_map
+                (λ r known.
+                record {
+                  security = omega (arith, stands_low known.stands, facts.few_securities);
+                  currency = rw (security_held t admitted known.stands) (rank_low known.stands);
+                  ranged = λ m. (trade_ranged r known m, rw (security_held t admitted known.stands) (security_ranged r known m));
+                })
+                (trades_known t admitted));
+          }
+
+      few : TablesFew (held_tables t)
+      few =
+          record {
+            few_classes = omega (arith, length-map t.classes held_class, facts.few_classes);
+            few_priorities = omega (arith, length-map t.priorities held_priority, facts.few_priorities);
+            few_securities = omega (arith, length-map t.securities (held_security t.classes (currencies t.securities)), facts.few_securities);
+            few_trades = omega (arith, length-map t.trades (trade_in t), facts.few_trades);
+            few_currencies = omega (arith, length-map (currencies t.securities) currency_number, currencies_few);
+          }

@@ -84,6 +84,14 @@ pub record TablesRanged (t : Tables) : Type 0 where
   pub securities : Each Seated t.securities.rows.items
   pub trades : Each (Placed t.securities.rows.items) t.trades.items
 
+-- Tables with no more rows and currencies than the rules let through
+pub record TablesFew (t : Tables) : Type 0 where
+  pub few_classes : length t.classes.items ≤ 40
+  pub few_priorities : length t.priorities.items ≤ 200
+  pub few_securities : length t.securities.rows.items ≤ 200
+  pub few_trades : length t.trades.items ≤ 500
+  pub few_currencies : length t.securities.currencies.items ≤ 8
+
 -- What a currency begins with, within the table of bounds: worths in cents, positions in whole units
 pub record Opened (o : Opening) : Type 0 where
   pub worths : (i : ℕ) → nat_abs (get_or o.worths i (pos 0)) ≤ most_net_cents

@@ -150,7 +150,7 @@ module _ (t : Tables) (admitted : Admitted t) where
             let has = sym asked_there ∙ ap is_some is in
             let class = (both (has_currency t.securities c) (has_class t.classes n) has).1 in
             record {
-              ranged = tables_ranged t admitted;
+              ranged = (tables_ranged t admitted).0;
               rank_low = omega (arith, stands_low asked_stands, currencies_few t admitted);
               class_low = (class_range t.classes n (table_facts t admitted).classes class).1;
             }

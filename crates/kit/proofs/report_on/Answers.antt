@@ -41,7 +41,7 @@ module _ (sheet buffer : Text) (listing : Listing) {read : Result Tables Refused
     accepts = is_accepted (length buffer) sheet is goes
 
     ranged : TablesRanged tables
-    ranged = subst⁻¹ TablesRanged accepts.held (tables_ranged accepts.paper accepts.admitted)
+    ranged = subst⁻¹ TablesRanged accepts.held (tables_ranged accepts.paper accepts.admitted).0
 
     module _ (figures : Figures) (figures_is : figures ≡ figures_of tables) where
       -- The figures are the paper's
