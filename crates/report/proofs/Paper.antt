@@ -1,10 +1,10 @@
 -- The report's text of admitted tables, from the tables and figures as the code holds them, is the paper's, and it can be written.
-use Prim.Native.Nat.{ℕ, suc, ◌+◌}
+use Prim.Native.Nat.{ℕ, suc, ◌+◌, ◌≤◌, ◌<◌, ◌^◌}
 use native.Mathlib.Omega.{arith}
 use mathlib.Core.Bool.{Bool, true, false}
 use mathlib.Core.List.{List, [], ◌∷◌, ◌++◌, map}
 use mathlib.Core.Path.{◌≡◌, refl, sym, ap, ap₂, ◌∙◌}
-use lib.IntN.{pos}
+use lib.IntN.{pos, nat_abs}
 use lib.ListN.{length, length-map}
 use Rattle.std.specs.List.{zip}
 use Rattle.paper.specs.Units.{Text, Line, Currency, SignedCents, Whole}
@@ -17,24 +17,26 @@ use Rattle.paper.specs.Currencies.{currencies}
 use Rattle.paper.specs.Valuation.{margined, valued, valued_from, valued_in}
 use Rattle.paper.specs.Offsetting.{position, remaining_in}
 use Rattle.paper.specs.Report.{Listing, is_listed, trade_line, class_line, margin_of, currency_lines, report_of}
+use Rattle.paper.specs.Bounds.{most_mark}
 use Rattle.paper.specs.Tables.{Admitted}
-use Rattle.paper.proofs.Lists.{each_map, each_made, joined_only}
+use Rattle.paper.proofs.Lists.{each_map, each_made, each_all, joined_only}
+use Rattle.paper.proofs.Bounds.{valued_facts}
 use Rattle.paper.proofs.Currencies.{each_currency}
-use Rattle.paper.proofs.Totals.{TableFacts, table_facts}
+use Rattle.paper.proofs.Totals.{TableFacts, table_facts, currency_facts}
 use Rattle.tables.specs.Numbers.{currency_number}
-use Rattle.tables.specs.Held.{no_class, no_trade, held_class, held_priority, held_security, held_tables}
+use Rattle.tables.specs.Held.{no_class, no_security, no_trade, held_class, held_priority, held_security, held_tables}
 use Rattle.tables.specs.declared.ClassRow.{ClassRow}
 use Rattle.tables.proofs.Numbers.{currency_number_low}
-use Rattle.tables.proofs.Places.{Stands, here, there, stands_each, stands_made, currency_stands}
+use Rattle.tables.proofs.Places.{Stands, here, there, stands_low, stands_each, stands_made, each_standing, each_any, currency_stands}
 use Rattle.margin.specs.Openings.{from_rank}
 use Rattle.margin.specs.Held.{mark_of, held_currency, held_figures}
 use Rattle.margin.proofs.Forwards.{ranks_made}
 use Rattle.margin.proofs.Trades.{Known, trades_known, trade_in, security_held, valued_out, valued_own}
-use Rattle.margin.proofs.Paper.{trades_line, letters, rising_currencies}
+use Rattle.margin.proofs.Paper.{trades_line, letters, rising_currencies, rank_low, tables_ranged}
 use Rattle.lines.specs.Written.{money_text, mark_line, position_line, total_line}
 use Rattle.lines.proofs.Spelled.{money_text_lem}
-use Rattle.report.proofs.Columns.{stands_held}
-use Rattle.report.specs.Texts.{first_line, money_at, marked, mark_text, listed_line, position_text, lines_of, report_text, Writable}
+use Rattle.report.proofs.Columns.{stands_held, padded_any}
+use Rattle.report.specs.Texts.{first_line, money_at, marked, mark_text, listed_line, position_text, lines_of, report_text, Writable, WritableFigures}
 
 -- The paper's M lines of T rows that begin at a line
 abbrev marks_from : Tables → Line → List TradeRow → Text
@@ -157,10 +159,50 @@ module _ (t : Tables) (admitted : Admitted t) where
 
   -- ---- it can be written
 
-  -- The report of admitted tables can be written
-  pub writable_held : Writable (held_tables t)
-  writable_held =
-      record {
-        classes = each_made held_class t.classes (each_map (λ c f. f.high) facts.classes);
-        money = each_made currency_number (currencies t.securities) (each_map currency_number_low names);
-      }
+  -- The mark-to-market of a trade, in size: cents
+  mark_size : (r : TradeRow) → Known t r → nat_abs (mark_of t r) ≤ most_mark
+  mark_size r known = go (margined (day t.date) r) refl
+    where
+      go : (own : Bool) → margined (day t.date) r ≡ own → nat_abs (mark_of t r) ≤ most_mark
+      go false e = rw (e, mark_of) (omega arith)
+      go true e =
+          let s = known.security in
+          rw (e, known.found, mark_of)
+          (valued_facts (day t.date) 0 r s known.facts.facts (stands_each facts.securities known.stands) e (known.facts.period s known.found e).1
+          (omega arith)
+          ).mark
+
+  -- The report of admitted tables can be written, and its tables and figures stand in their places
+  pub writable_held : Writable (held_tables t) × WritableFigures (held_tables t) (held_figures t)
+  writable_held = (writable, figures)
+    where
+      writable : Writable (held_tables t)
+      writable =
+          record {
+            classes = each_made held_class t.classes (each_map (λ c f. f.high) facts.classes);
+            money = each_made currency_number (currencies t.securities) (each_map currency_number_low names);
+          }
+
+      figures : WritableFigures (held_tables t) (held_figures t)
+      figures =
+          record {
+            few = (tables_ranged t admitted).1;
+            security =
+                each_any (λ h. h.security < 200)
+                (each_made (trade_in t) t.trades (each_map (λ r known. omega (arith, stands_low known.stands, facts.few_securities)) (trades_known t admitted)))
+                no_trade
+                (omega arith);
+            currency =
+                each_any (λ h. h.currency < 8)
+                (each_made (held_security t.classes (currencies t.securities)) t.securities (each_standing t.securities (λ k s at. rank_low t admitted at)))
+                no_security
+                (omega arith);
+            mark =
+                padded_any (λ mark. nat_abs mark < 2 ^ 63) 500
+                (each_made (mark_of t) t.trades (each_map (λ r known. omega (arith, mark_size r known)) (trades_known t admitted)))
+                (omega arith)
+                (pos 0)
+                (omega arith);
+            sum =
+                each_made (held_currency t) (currencies t.securities) (each_all (λ c. omega (arith, (currency_facts t admitted c).mark)) (currencies t.securities));
+          }

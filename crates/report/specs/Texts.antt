@@ -1,5 +1,5 @@
 -- The report's text, from the tables and the figures as the code holds them.
-use Rattle.std.specs.Prelude.{ℕ, ◌+◌, ◌≤◌, ◌<◌, Bool, true, false, not, ◌&&◌, ◌||◌, [], ◌++◌, map, eqb, pos, length, get_or}
+use Rattle.std.specs.Prelude.{ℕ, ◌+◌, ◌≤◌, ◌<◌, ◌^◌, Bool, true, false, not, ◌&&◌, ◌||◌, [], ◌++◌, map, eqb, pos, nat_abs, length, get_or}
 use Rattle.std.specs.List.{zip}
 use Rattle.paper.specs.Units.{Text, Line, Class, SignedCents, Whole}
 use Rattle.paper.specs.Lists.{joined_up, Each}
@@ -10,6 +10,7 @@ use Rattle.tables.specs.Held.{no_class, no_security, no_trade}
 use Rattle.tables.specs.declared.ClassRow.{ClassRow}
 use Rattle.tables.specs.declared.Tables.{Tables}
 use Rattle.margin.specs.Openings.{from_rank}
+use Rattle.margin.specs.Figures.{TablesFew}
 use Rattle.margin.specs.declared.Currency.{Currency}
 use Rattle.margin.specs.declared.Figures.{Figures}
 use Rattle.lines.specs.Written.{money_text, mark_line, position_line, total_line}
@@ -78,3 +79,11 @@ Classed cs = Each (λ row. row.class ≤ 40) cs.items
 pub record Writable (t : Tables) : Type 0 where
   pub classes : Classed t.classes
   pub money : Each (λ number. number < 79_507) t.securities.currencies.items
+
+-- Tables and figures that stand in their places, with signed figures that fit 64 bits
+pub record WritableFigures (t : Tables) (f : Figures) : Type 0 where
+  pub few : TablesFew t
+  pub security : (i : ℕ) → (get_or t.trades.items i no_trade).security < 200
+  pub currency : (i : ℕ) → (get_or t.securities.rows.items i no_security).currency < 8
+  pub mark : (i : ℕ) → nat_abs (get_or f.marks i (pos 0)) < 2 ^ 63
+  pub sum : Each (λ c. nat_abs c.mark < 2 ^ 63) f.currencies.items

@@ -54,7 +54,7 @@ module _ (sheet buffer : Text) (listing : Listing) {read : Result Tables Refused
 
       -- It can be written
       writable : Writable tables
-      writable = subst⁻¹ Writable accepts.held (writable_held accepts.paper accepts.admitted)
+      writable = subst⁻¹ Writable accepts.held (writable_held accepts.paper accepts.admitted).0
 
       room : length (report_text listing tables figures) ≤ length buffer
       room = omega (arith, ap length text_is, report_fits listing accepts.paper accepts.admitted, accepts.roomy)
