@@ -1,10 +1,4 @@
 -- What it is that a contract fixes its answer, and the law behind every entry of the list.
-use Rattle.std.proofs.Common.{ℕ, List, Option, Some, Result, Ok, Bor, MutBor}
-use Rattle.std.specs.declared.io.traits.Read.{Ghosts}
-use denote.RattleType.{RattleType}
-use denote.Param.Laws.{Laws}
-use denote.MutBor.{Gone}
-use mir.Syntax.{Dict}
 use mathlib.Core.Path.{◌≡◌, sym, ap₂, ◌∙◌}
 
 module _ {K : Type 0} {A R S : K → Type 0} (post : (κs : K) → A κs → R κs → S κs → Type 0) where
@@ -16,18 +10,6 @@ module _ {K : Type 0} {A R S : K → Type 0} (post : (κs : K) → A κs → R �
   -- It fixes the result
   abbrev pub Fixes : Type 0
   Fixes = (κs : K) (a : A κs) (x y : R κs) (s u : S κs) → post κs a x s → post κs a y u → x ≡ y
-
--- A contract of what reads into a lent room and gives what it read, over the reader's type with what is known of it: it fixes what
--- is read and what the reader has left, where the reader's bytes are known and nothing fails. What other readers give no contract
--- knows
-abbrev pub FixesRead : {K E : Type 0} → ((R : RattleType) → Laws R → Ghosts R.Denot → Dict → K
-    → MutBor R.Denot × (MutBor (List ℕ) × Unit {0}) → Result (Bor (List ℕ)) E → MutBor R.Denot × (Gone × Unit {0}) → Type 0) → Type 2
-FixesRead {K} {E} post = (R : RattleType) (laws : Laws R) (g : Ghosts R.Denot) (dict : Dict) (κs : K)
-    (a : MutBor R.Denot × (MutBor (List ℕ) × Unit {0})) (x y : Bor (List ℕ)) (s u : MutBor R.Denot × (Gone × Unit {0})) (bytes : List ℕ)
-    → g.remaining a.0.now ≡ Some bytes
-    → post R laws g dict κs a (Ok x) s
-    → post R laws g dict κs a (Ok y) u
-    → ◌≡◌ {A = List ℕ × Option (List ℕ)} (x.now, g.remaining s.0.now) (y.now, g.remaining u.0.now)
 
 -- The law: what equals one thing is equal
 pub one : {A : Type 0} {x y d : A} → x ≡ d → y ≡ d → x ≡ y

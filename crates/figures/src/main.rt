@@ -2,11 +2,13 @@
 // Its arguments are the cases, each as three files: a sheet, and what the forecast prints for it, quiet and full.
 #![tactic(auto)]
 
-ghost use Rattle.std.specs.Prelude.{◌≤◌, length, IfOk};
+ghost use Rattle.std.specs.Prelude.{◌≤◌, ℕ, List, IfOk, OnErr, length};
+ghost use Rattle.std.specs.Io.KnownBytes.{Consumes};
+ghost use Rattle.given.specs.Bytes.{Gave};
 
 use std::env::Env;
 use std::fs::Files;
-use std::io::Print;
+use std::io::{Print, Read};
 use std::{fs, io, str};
 
 // What was run, and whether the kit gave what is expected.
@@ -19,6 +21,25 @@ fn say(rt: &impl Print, name: &[u8], same: bool) -> io::Result<()> {
     }
 }
 
+// Reads until the room is full or the input ends, and gives what it read.
+#[tactic(auto, using(given::proofs::Reading::read_on, given::proofs::Reading::read_all))]
+fn read_full<'a, R: Read>(input: &mut R, room: &'a mut [u8]) -> io::Result<&'a [u8]>
+    ensures within { IfOk result (λ text. length text.now ≤ length room.old) }
+    ensures bytes { IfOk result (λ text. Gave (R.remaining input.old) (R.remaining input.new) (length room.old) text.now) }
+    ensures err { OnErr result ((lost : List ℕ) × Consumes (R.remaining input.old) (R.remaining input.new) lost) }
+{
+    // By hand, since std's `read_to_end` asks for a heap, and its `read_exact` does not say how much it read.
+    let mut size: usize = 0; // bytes read
+    while size < room.len() {
+        let more = input.read(&mut room[size..])?; // bytes
+        if more == 0 {
+            break;
+        }
+        size += more;
+    }
+    Ok(&room[..size])
+}
+
 // What stands in a file, as far as there is room; nothing where it cannot be opened.
 fn read_file<'a>(rt: &impl Files, name: &[u8], room: &'a mut [u8]) -> io::Result<&'a [u8]>
     ensures { IfOk result (λ text. length text.now ≤ length room.old) }
@@ -29,7 +50,7 @@ fn read_file<'a>(rt: &impl Files, name: &[u8], room: &'a mut [u8]) -> io::Result
     let Ok(mut file) = fs::open(rt, path) else {
         return Ok(&[]);
     };
-    given::read_full(&mut file, room)
+    read_full(&mut file, room)
 }
 
 // Whether the report of a sheet is the text in the file at a place among the arguments.

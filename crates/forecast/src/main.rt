@@ -2,12 +2,14 @@
 // two words, a currency and a class, why the margin of that class is what it is; and `N;refusal;line` alone where it is refused.
 #![tactic(auto)]
 
-ghost use Rattle.std.specs.Prelude.{◌≤◌, length};
+ghost use Rattle.std.specs.Prelude.{◌≤◌, ℕ, List, IfOk, OnErr, length};
+ghost use Rattle.std.specs.Io.KnownBytes.{Consumes};
+ghost use Rattle.given.specs.Bytes.{Gave};
 ghost use Rattle.io.specs.Counts.{IsPrefixLen};
 
 use std::env::Env;
 use std::io;
-use std::io::Print;
+use std::io::{Print, Read};
 
 // How many words the call has behind the program's name, counted up to 3.
 fn words(rt: &impl Env) -> usize {
@@ -42,11 +44,30 @@ fn show_asked(rt: &impl Env, sheet: &[u8], out: &mut [u8]) -> usize
     }
 }
 
+// Reads until the room is full or the input ends, and gives what it read.
+#[tactic(auto, using(given::proofs::Reading::read_on, given::proofs::Reading::read_all))]
+fn read_full<'a, R: Read>(input: &mut R, room: &'a mut [u8]) -> io::Result<&'a [u8]>
+    ensures within { IfOk result (λ text. length text.now ≤ length room.old) }
+    ensures bytes { IfOk result (λ text. Gave (R.remaining input.old) (R.remaining input.new) (length room.old) text.now) }
+    ensures err { OnErr result ((lost : List ℕ) × Consumes (R.remaining input.old) (R.remaining input.new) lost) }
+{
+    // By hand, since std's `read_to_end` asks for a heap, and its `read_exact` does not say how much it read.
+    let mut size: usize = 0; // bytes read
+    while size < room.len() {
+        let more = input.read(&mut room[size..])?; // bytes
+        if more == 0 {
+            break;
+        }
+        size += more;
+    }
+    Ok(&room[..size])
+}
+
 fn main(rt: HostRuntime) -> io::Result<()> {
     // One byte more than a sheet may have, so that a longer one is seen.
     let mut room = [0u8; 65537];
     let mut out = [0u8; 32768];
-    let sheet = given::read_full(&mut rt.stdin(), &mut room)?;
+    let sheet = read_full(&mut rt.stdin(), &mut room)?;
     let shown = show_asked(&rt, sheet, &mut out); // bytes
     rt.write_all(&out[..shown])
 }

@@ -33,3 +33,8 @@ read_all room text None after within end lost = tt
 read_all room text (Some bytes) None within end lost = absurd lost
 read_all room text (Some bytes) (Some others) within end lost =
     (first_of room text others within end ∙ ap (take room) (sym lost), ap (λ xs. Some xs) (left_of room text others within end ∙ ap (drop room) (sym lost)))
+
+-- What is read of known bytes is fixed, and so is what is left of them
+pub gave_once : (room : ℕ) (bytes text other : List ℕ) (after behind : Option (List ℕ)) → Gave (Some bytes) after room text
+    → Gave (Some bytes) behind room other → (text ≡ other) × (after ≡ behind)
+gave_once room bytes text other after behind first second = (first.0 ∙ sym second.0, first.1 ∙ sym second.1)
