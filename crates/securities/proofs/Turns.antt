@@ -147,7 +147,7 @@ last_of [] = None
 last_of (s ∷ above) = Some (code_of s)
 
 -- Rule 9 by that number
-last_before : (above : List paper.SecurityRow) → Each SecurityFacts above → (s : paper.SecurityRow) → is_code s.code ≡ true
+pub last_before : (above : List paper.SecurityRow) → Each SecurityFacts above → (s : paper.SecurityRow) → is_code s.code ≡ true
     → rises (last_of above) (code_of s) ≡ every (λ a. before a.code s.code) (take 1 above)
 last_before [] nil s p = refl
 last_before (a ∷ above) (cons f each) s p = sym (code_number_before a.code s.code f.code p) ∙ go (before a.code s.code)
