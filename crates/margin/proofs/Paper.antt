@@ -30,7 +30,8 @@ use Rattle.paper.proofs.Currencies.{few_currencies, each_currency}
 use Rattle.paper.proofs.Totals.{TableFacts, table_facts}
 use Rattle.tables.specs.Padded.{padded}
 use Rattle.tables.specs.Numbers.{trade_number, code_number, currency_number}
-use Rattle.tables.specs.Held.{no_security, held_class, held_priority, held_security, codes_of, held_tables}
+use Rattle.tables.specs.Blanks.{no_security}
+use Rattle.tables.specs.Held.{held_class, held_priority, held_security, codes_of, held_tables}
 use Rattle.tables.specs.declared.Security.{Security}
 use Rattle.tables.specs.declared.Trade.{Trade}
 use Rattle.tables.proofs.Numbers.{code_number_same, currency_number_same}

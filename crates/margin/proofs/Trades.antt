@@ -22,7 +22,8 @@ use Rattle.paper.proofs.Lists.{tests, never, each_map}
 use Rattle.paper.proofs.Rules.{each_holds}
 use Rattle.paper.proofs.Totals.{TradeIn, trade_in_lem, table_facts}
 use Rattle.tables.specs.Numbers.{code_number, trade_number, side_number, number_place}
-use Rattle.tables.specs.Held.{no_security, held_security, held_trade, codes_of, held_tables}
+use Rattle.tables.specs.Blanks.{no_security}
+use Rattle.tables.specs.Held.{held_security, held_trade, codes_of, held_tables}
 use Rattle.tables.specs.declared.Security.{Security}
 use Rattle.tables.specs.declared.Trade.{Trade}
 use Rattle.tables.proofs.Numbers.{code_number_same}

@@ -1,3 +1,4 @@
+pub mod Blanks
 pub mod Sums
 pub mod Openings
 pub mod Figures

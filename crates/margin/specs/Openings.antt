@@ -4,7 +4,7 @@ use Rattle.paper.specs.Units.{Class, SignedCents, SignedWhole}
 use Rattle.paper.specs.Rounding.{rounded}
 use Rattle.paper.specs.Signs.{above_zero, below_zero}
 use Rattle.paper.specs.Offsetting.{position}
-use Rattle.tables.specs.Held.{no_security}
+use Rattle.tables.specs.Blanks.{no_security}
 use Rattle.tables.specs.declared.Security.{Security}
 use Rattle.offsetting.specs.declared.Book.{Book}
 use Rattle.margin.specs.Sums.{gathered}

@@ -1,7 +1,7 @@
 -- The trades of a sheet, valued and summed by security and by currency, as the code holds them.
 use Rattle.std.specs.Prelude.{ℕ, ◌<◌, true, List, [], ◌∷◌, map, ◌≡◌, pos, ◌+ℤ◌, get_or, set, replicate}
 use Rattle.tables.specs.Padded.{padded}
-use Rattle.tables.specs.Held.{no_security}
+use Rattle.tables.specs.Blanks.{no_security}
 use Rattle.tables.specs.declared.Security.{Security}
 use Rattle.tables.specs.declared.Trade.{Trade}
 use Rattle.valuation.specs.Valued.{Ranged, Quoted, value_of}

@@ -12,9 +12,8 @@ ghost use Rattle.margin.specs.Sums.{Placed, sums_of};
 ghost use Rattle.margin.specs.Openings.{Seated, with_net, nets_of, openings_of};
 ghost use Rattle.margin.specs.Figures.{ClassRanged, TablesRanged, Opened, margin_in, margins_of, opening_of, currency_of, figures_of};
 
-use arrayvec::ArrayVec;
 use offsetting::{Book, Whole};
-use tables::{ClassRow, PriorityRow, Security, Tables, Trade};
+use tables::{Blank, ClassRow, PriorityRow, Rows, Security, Tables, Trade};
 use valuation::{Cents, SignedCents};
 
 // The sums of the trades. No vectors: a mark or a sum is written where its trade, security or currency stands, from the last trade on.
@@ -49,11 +48,31 @@ pub struct Currency {
     pub total: Cents,
 }
 
+impl Blank for Currency {
+    ghost use Rattle.margin.specs.Blanks.{no_currency};
+
+    ghost blank = { no_currency };
+
+    // What stands where there is no currency.
+    fn blank() -> Currency {
+        Currency {
+            book: Book {
+                long: [0; 41],
+                short: [0; 41],
+            },
+            margins: [0; 40],
+            mark: 0,
+            initial: 0,
+            total: 0,
+        }
+    }
+}
+
 // The figures of a sheet.
-#[derive(Drop)]
+#[derive(Clone, Copy)]
 pub struct Figures {
     pub marks: [SignedCents; 500], // of each trade, 0 where it is not margined; no vector, as in the sums
-    pub currencies: ArrayVec<Currency, 8>, // rising
+    pub currencies: Rows<Currency, 8>, // rising
 }
 
 // An amount onto the sum at a place.
@@ -218,7 +237,7 @@ pub fn figures_of(tables: &Tables) -> Figures
         totals,
     } = sums_of(trades, securities);
     let openings = openings_of(securities, &worths);
-    let mut currencies = ArrayVec::new();
+    let mut currencies = Rows::new();
     // By rank: openings and totals have places that no currency has.
     for rank in 0..tables.securities.currencies.len() {
         currencies.push(currency_of(openings[rank], classes, priorities, totals[rank]));

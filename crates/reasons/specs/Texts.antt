@@ -8,7 +8,7 @@ use Rattle.paper.specs.Rounding.{rounded}
 use Rattle.paper.specs.Refusals.{has_class}
 use Rattle.paper.specs.Offsetting.{Book, position, offset_all}
 use Rattle.paper.specs.Explanation.{is_net, setter_of, setter_line}
-use Rattle.tables.specs.Held.{no_security}
+use Rattle.tables.specs.Blanks.{no_security}
 use Rattle.tables.specs.Back.{paper_classes}
 use Rattle.tables.specs.Ranks.{ranked_of}
 use Rattle.tables.specs.declared.PriorityRow.{PriorityRow}

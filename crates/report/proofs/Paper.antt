@@ -24,7 +24,8 @@ use Rattle.paper.proofs.Bounds.{valued_facts}
 use Rattle.paper.proofs.Currencies.{each_currency}
 use Rattle.paper.proofs.Totals.{TableFacts, table_facts, currency_facts}
 use Rattle.tables.specs.Numbers.{currency_number}
-use Rattle.tables.specs.Held.{no_class, no_security, no_trade, held_class, held_priority, held_security, held_tables}
+use Rattle.tables.specs.Blanks.{no_class, no_security, no_trade}
+use Rattle.tables.specs.Held.{held_class, held_priority, held_security, held_tables}
 use Rattle.tables.specs.declared.ClassRow.{ClassRow}
 use Rattle.tables.proofs.Numbers.{currency_number_low}
 use Rattle.tables.proofs.Places.{Stands, here, there, stands_low, stands_each, stands_made, each_standing, each_any, currency_stands}

@@ -6,7 +6,7 @@ use Rattle.paper.specs.Lists.{joined_up, Each}
 use Rattle.paper.specs.Offsetting.{position}
 use Rattle.paper.specs.Report.{Listing}
 use Rattle.arrayvec.specs.ArrayVec.{ArrayVec}
-use Rattle.tables.specs.Held.{no_class, no_security, no_trade}
+use Rattle.tables.specs.Blanks.{no_class, no_security, no_trade}
 use Rattle.tables.specs.declared.ClassRow.{ClassRow}
 use Rattle.tables.specs.declared.Tables.{Tables}
 use Rattle.margin.specs.Openings.{from_rank}

@@ -14,11 +14,10 @@ ghost use Rattle.securities.specs.Ranks.{with_rank};
 ghost use Rattle.securities.specs.Section.{security_section, judged_of, Small, security_of};
 
 use answers::{Refusal, Refused};
-use arrayvec::ArrayVec;
 use classes::{Class, Duration, Kind};
 use days::Day;
 use places::{Line, Place};
-use tables::{Classes, Code, Money, Securities, Security};
+use tables::{Classes, Code, Money, Rows, Securities, Security};
 
 // What an S row says of its security, but for its coupon dates.
 #[derive(Clone, Copy)]
@@ -136,17 +135,19 @@ fn security_of(row: SecurityRow, class: Class) -> Security
 
 // Gives rows the places of their currencies among all that there are.
 fn with_ranks(
-    rows: &mut [Security],
+    rows: &mut Rows<Security, 200>,
     money: &[Money], // of the rows
     currencies: &[Money],
 )
-    requires { (length money.now ≤ length rows.old) × (length currencies.now ≤ 8) }
-    ensures { rows.new ≡ with_rank currencies.now money.now rows.old }
+    requires { (length money.now ≤ length rows.old.items) × (length currencies.now ≤ 8) }
+    ensures { rows.new.items ≡ with_rank currencies.now money.now rows.old.items }
 {
     // By their index: `rows.iter_mut().zip(money)` was tried, and no invariant can name the rows that it writes.
     for (i, &own) in money.iter().enumerate() {
         let (Ok(rank) | Err(rank)) = tables::ranked(currencies, own);
-        rows[i].currency = rank as u32;
+        let mut row = rows.as_slice()[i];
+        row.currency = rank as u32;
+        rows.set(i, row);
     }
 }
 
@@ -165,7 +166,7 @@ pub fn security_section(
 {
     let mut table = Securities::new();
     // Beside the rows, not in them: a row has its currency's place, which is not known before the last row.
-    let mut money: ArrayVec<Money, 200> = ArrayVec::new();
+    let mut money: Rows<Money, 200> = Rows::new();
     let mut last: Option<Code> = None;
     let mut at: Place = from;
     while sections::goes_on(s, at, end, b'S') {
@@ -189,7 +190,7 @@ pub fn security_section(
             });
         };
         if let Err(rank) = standing {
-            table.currencies.insert(rank, terms.currency);
+            table.currencies = tables::inserted(table.currencies, rank, terms.currency);
         }
         table.rows.push(security_of(row, class));
         table.codes[count] = terms.number;
@@ -198,7 +199,7 @@ pub fn security_section(
         at = next;
     }
     with_ranks(
-        table.rows.as_mut_slice(),
+        &mut table.rows,
         money.as_slice(),
         table.currencies.as_slice(),
     );

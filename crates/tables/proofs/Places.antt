@@ -6,9 +6,12 @@ use mathlib.Core.Bool.{Bool, true, false}
 use mathlib.Core.List.{List, [], ◌∷◌, map}
 use mathlib.Core.Option.{some, some-injective, none-ne-some}
 use mathlib.Core.Path.{◌≡◌, refl, sym, ap, ◌∙◌}
-use borrow.Author.Tests.{eq-eqb, ne_eqb, ltb-true}
-use lib.Dec.{T, eqb, eqb-suc-suc}
+use borrow.Author.Tests.{eq-eqb, ne_eqb, ltb-true, ltb-false}
+use lib.Dec.{T, eqb, ltb, eqb-suc-suc}
 use lib.ListN.{length, get_or}
+use Rattle.std.specs.Prelude.{Some, None}
+use Rattle.std.specs.Bool.{then_some}
+use Rattle.std.proofs.lemmas.Option.{same_Some, none-some}
 use Rattle.paper.specs.Units.{Currency}
 use Rattle.paper.specs.Lists.{every, first_that, given, Each, nil, cons}
 use Rattle.paper.specs.Text.{same, before, is_currency}
@@ -22,6 +25,7 @@ use Rattle.paper.proofs.Rules.{security_facts}
 use Rattle.paper.proofs.Currencies.{placed_there, placed_first, placed_on, has_currency_lem, each_currency}
 use Rattle.tables.specs.Numbers.{code_number, currency_number, number_place}
 use Rattle.tables.specs.Held.{codes_of}
+use Rattle.tables.specs.Ranks.{found_place}
 use Rattle.tables.proofs.Numbers.{code_number_before, currency_number_before}
 
 -- An entry stands at a place of a list
@@ -118,6 +122,23 @@ place_most (m ∷ ns) n = go (eqb m n) (place_most ns n)
     go : (b : Bool) → number_place ns n ≤ length ns → elim b [ true ↦ 0 | false ↦ suc (number_place ns n) ] ≤ suc (length ns)
     go true rest = omega arith
     go false rest = omega (arith, rest)
+
+-- What is found is the place, and one of theirs
+pub place_found : (ns : List ℕ) (n place : ℕ) → found_place ns n ≡ Some place → (place ≡ number_place ns n) × (place < length ns)
+place_found ns n place = go (ltb (number_place ns n) (length ns)) refl
+  where
+    go : (b : Bool) → ltb (number_place ns n) (length ns) ≡ b → then_some b (number_place ns n) ≡ Some place
+        → (place ≡ number_place ns n) × (place < length ns)
+    go true l e = let same = same_Some (number_place ns n) place e in (sym same, omega (arith, ltb-true (number_place ns n) (length ns) l))
+    go false l e = absurd (none-some place e)
+
+-- Where nothing is found, the place is behind them all
+pub place_missing : (ns : List ℕ) (n : ℕ) → found_place ns n ≡ None → number_place ns n ≡ length ns
+place_missing ns n = go (ltb (number_place ns n) (length ns)) refl
+  where
+    go : (b : Bool) → ltb (number_place ns n) (length ns) ≡ b → then_some b (number_place ns n) ≡ None → number_place ns n ≡ length ns
+    go true l e = absurd (none-some (number_place ns n) (sym e))
+    go false l e = omega (arith, place_most ns n, ltb-false (number_place ns n) (length ns) l)
 
 -- ---- currencies
 

@@ -1,5 +1,5 @@
 -- The tables of a sheet as the code holds them: each is a map of the rows that the paper read.
-use Rattle.std.specs.Prelude.{ℕ, false, List, map, pos}
+use Rattle.std.specs.Prelude.{ℕ, List, [], map, pos}
 use Rattle.std.proofs.Math.Option.{get_or}
 use Rattle.paper.specs.Units.{Day, Currency}
 use Rattle.paper.specs.Days.{day}
@@ -18,10 +18,6 @@ use Rattle.tables.specs.declared.Tables.{Tables}
 
 -- ---- C rows
 
--- What stands where the table has no row
-abbrev pub no_class : ClassRow
-no_class = record { class = 0; kind = 0; border = 0; deposit = 0 }
-
 -- A C row; a border that is blank is 0
 abbrev pub held_class : paper.ClassRow → ClassRow
 held_class c = record { class = c.class; kind = kind_number c.kind; border = get_or c.border 0; deposit = c.deposit }
@@ -31,10 +27,6 @@ abbrev pub class_table : List paper.ClassRow → ArrayVec ClassRow
 class_table cs = record { items = map held_class cs }
 
 -- ---- O rows
-
--- What stands where the table has no row
-abbrev pub no_priority : PriorityRow
-no_priority = record { first = 0; second = 0; factor = 0 }
 
 -- An O row
 abbrev pub held_priority : paper.PriorityRow → PriorityRow
@@ -49,10 +41,6 @@ priority_table os = record { items = map held_priority os }
 -- Currencies, in their order
 abbrev pub currency_table : List Currency → ArrayVec ℕ
 currency_table all = record { items = map currency_number all }
-
--- What stands where the table has no row
-abbrev pub no_security : Security
-no_security = record { price = 0; coupon = 0; payments = 0; previous = 0; next = 0; class = 0; currency = 0 }
 
 -- An S row, with the classes of the sheet and its currencies
 abbrev pub held_security : List paper.ClassRow → List Currency → paper.SecurityRow → Security
@@ -81,21 +69,6 @@ security_table cs ss =
     }
 
 -- ---- T rows
-
--- What stands where the table has no row
-abbrev pub no_trade : Trade
-no_trade =
-    record {
-      amount = 0;
-      rate = pos 0;
-      nominal = 0;
-      first = 0;
-      accrual = 0;
-      security = 0;
-      trade = 0;
-      side = 0;
-      margined = false;
-    }
 
 -- A T row, with the calculation day and the numbers of the securities' codes; a rate that is blank is 0
 abbrev pub held_trade : Day → List ℕ → paper.TradeRow → Trade
@@ -127,3 +100,7 @@ held_tables t =
       securities = security_table t.classes t.securities;
       trades = trade_table (day t.date) (codes_of t.securities) t.trades;
     }
+
+-- Tables without rows
+abbrev pub no_tables : paper.Tables
+no_tables = record { date = 0; classes = []; priorities = []; securities = []; trades = [] }

@@ -1,3 +1,4 @@
+pub mod Blanks
 pub mod Padded
 pub mod Numbers
 pub mod Held

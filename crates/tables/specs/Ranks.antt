@@ -1,6 +1,8 @@
 -- Where a code or a currency stands among rising ones, by its number.
 use Rattle.std.specs.Prelude.{ℕ, suc, ◌≤◌, ◌<◌, true, false, List, [], ◌∷◌, ◌≡◌, eqb, ltb, length, get_or, Option, Result, Ok, Err}
 use Rattle.std.specs.Bool.{then_some}
+use Rattle.std.specs.List.{insert}
+use Rattle.arrayvec.specs.ArrayVec.{ArrayVec}
 use Rattle.tables.specs.Numbers.{highest, number_place}
 
 -- The first so many of 256 codes rise, below the highest number, which stands behind them
@@ -28,3 +30,7 @@ ranked_of (n ∷ ns) own =
 abbrev pub rank_of : Result ℕ ℕ → ℕ
 rank_of (Ok rank) = rank
 rank_of (Err rank) = rank
+
+-- Currencies with one more at a rank
+abbrev pub inserted_at : ArrayVec ℕ → ℕ → ℕ → ArrayVec ℕ
+inserted_at c rank own = record { items = insert c.items rank own }

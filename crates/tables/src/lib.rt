@@ -2,11 +2,15 @@
 // number and a currency as another, dates as days, and what judging a row found out. Numbers are no wider than their range.
 #![tactic(auto)]
 
-ghost use Rattle.std.specs.Prelude.{◌≡◌, [], ◌≤◌, take};
-ghost use Rattle.tables.specs.Ranks.{Searchable, found_place, ranked_of};
-ghost use Rattle.tables.specs.Held.{security_table};
+ghost use Rattle.std.specs.Prelude.{◌≡◌, [], ◌≤◌, ◌<◌, take};
+ghost use Rattle.arrayvec.specs.ArrayVec.{array_vec_len};
+ghost use Rattle.tables.specs.Ranks.{Searchable, found_place, ranked_of, inserted_at};
+ghost use Rattle.tables.specs.Held.{no_tables, security_table, held_tables};
+ghost use Rattle.tables.specs.Blanks.{no_security};
 
-use arrayvec::ArrayVec;
+mod rows;
+
+pub use rows::{Blank, Rows};
 
 pub type Code = u64; // a code as one number, which orders as its bytes do
 
@@ -23,7 +27,17 @@ pub struct ClassRow {
     pub deposit: Factor,
 }
 
-pub type Classes = ArrayVec<ClassRow, 40>; // the C rows
+impl Blank for ClassRow {
+    ghost use Rattle.tables.specs.Blanks.{no_class};
+
+    ghost blank = { no_class };
+
+    fn blank() -> ClassRow {
+        ClassRow::default()
+    }
+}
+
+pub type Classes = Rows<ClassRow, 40>; // the C rows
 
 // An O row.
 #[derive(Clone, Copy, Default)]
@@ -33,9 +47,27 @@ pub struct PriorityRow {
     pub factor: Factor,
 }
 
-pub type Priorities = ArrayVec<PriorityRow, 200>; // the O rows
+impl Blank for PriorityRow {
+    ghost use Rattle.tables.specs.Blanks.{no_priority};
 
-pub type Currencies = ArrayVec<Money, 8>; // the currencies of the S rows, rising
+    ghost blank = { no_priority };
+
+    fn blank() -> PriorityRow {
+        PriorityRow::default()
+    }
+}
+
+pub type Priorities = Rows<PriorityRow, 200>; // the O rows
+
+impl Blank for Money {
+    ghost blank = { 0 };
+
+    fn blank() -> Money {
+        0 // no currency
+    }
+}
+
+pub type Currencies = Rows<Money, 8>; // the currencies of the S rows, rising
 
 // What valuing asks of an S row, with its class and the place of its currency among the rising ones.
 #[derive(Clone, Copy, Default)]
@@ -49,10 +81,20 @@ pub struct Security {
     pub currency: u32, // its place among the currencies
 }
 
+impl Blank for Security {
+    ghost use Rattle.tables.specs.Blanks.{no_security};
+
+    ghost blank = { no_security };
+
+    fn blank() -> Security {
+        no_security()
+    }
+}
+
 // The S rows, their codes in a column of their own, with the highest number behind them, and their currencies.
-#[derive(Drop)]
+#[derive(Clone, Copy)]
 pub struct Securities {
-    pub rows: ArrayVec<Security, 200>,
+    pub rows: Rows<Security, 200>,
     pub codes: [Code; 256], // no vector: `find` looks at all its places, in turns that no count changes
     pub currencies: Currencies,
 }
@@ -63,9 +105,9 @@ impl Securities {
         ensures { result ≡ security_table [] [] }
     {
         Securities {
-            rows: ArrayVec::new(),
+            rows: Rows::new(),
             codes: [18446744073709551615; 256],
-            currencies: ArrayVec::new(),
+            currencies: Rows::new(),
         }
     }
 }
@@ -84,15 +126,52 @@ pub struct Trade {
     pub margined: bool,
 }
 
-pub type Trades = ArrayVec<Trade, 500>; // the T rows
+impl Blank for Trade {
+    ghost use Rattle.tables.specs.Blanks.{no_trade};
+
+    ghost blank = { no_trade };
+
+    fn blank() -> Trade {
+        Trade::default()
+    }
+}
+
+pub type Trades = Rows<Trade, 500>; // the T rows
 
 // All tables of a sheet.
-#[derive(Drop)]
+#[derive(Clone, Copy)]
 pub struct Tables {
     pub classes: Classes,
     pub priorities: Priorities,
     pub securities: Securities,
     pub trades: Trades,
+}
+
+// What stands where the table of securities has no row.
+pub fn no_security() -> Security
+    ensures { result ≡ no_security }
+{
+    Security {
+        price: 0,
+        coupon: 0,
+        payments: 0,
+        previous: 0,
+        next: 0,
+        class: 0,
+        currency: 0,
+    }
+}
+
+// The tables of no rows.
+pub fn no_tables() -> Tables
+    ensures { result ≡ held_tables no_tables }
+{
+    Tables {
+        classes: Classes::new(),
+        priorities: Priorities::new(),
+        securities: Securities::new(),
+        trades: Trades::new(),
+    }
 }
 
 // ---- where a code or a currency stands
@@ -155,4 +234,25 @@ pub fn ranked(numbers: &[Money], own: Money) -> Result<usize, usize>
     } else {
         Err(rank)
     }
+}
+
+// Rising currencies with one more at its rank, where there are fewer than eight: each from there on gives its place to the one
+// before it. Past them all it is put behind the last.
+pub fn inserted(
+    currencies: Currencies,
+    rank: usize, // currencies before it
+    own: Money,
+) -> Currencies
+    requires { array_vec_len currencies < 8 }
+    ensures { result ≡ inserted_at currencies rank own }
+{
+    let mut numbers = currencies;
+    let mut moved: Money = own;
+    for i in rank..currencies.len() {
+        let number: Money = numbers.as_slice()[i];
+        numbers.set(i, moved);
+        moved = number;
+    }
+    numbers.push(moved);
+    numbers
 }

@@ -22,7 +22,8 @@ use Rattle.paper.proofs.Lists.{never, made_at, each_map, each_at, each_made}
 use Rattle.paper.proofs.Rules.{SecurityFacts, security_facts, each_holds, securities_at_most}
 use Rattle.paper.proofs.Order.{same_true}
 use Rattle.tables.specs.Numbers.{code_number, highest, number_place}
-use Rattle.tables.specs.Held.{no_security, held_security, codes_of, security_table}
+use Rattle.tables.specs.Blanks.{no_security}
+use Rattle.tables.specs.Held.{held_security, codes_of, security_table}
 use Rattle.tables.proofs.Numbers.{code_number_low, code_number_same}
 use Rattle.tables.proofs.Padded as padded
 use Rattle.tables.proofs.Places.{Rises, no_more, one_more, codes_rise}

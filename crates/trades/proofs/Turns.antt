@@ -33,7 +33,8 @@ use Rattle.answers.specs.declared.Refusal.TheVariants.{Count, Missing}
 use Rattle.answers.specs.declared.Refusal.TheVariants as refusals
 use Rattle.tables.specs.Numbers.{trade_number, number_place}
 use Rattle.arrayvec.specs.ArrayVec.{ArrayVec}
-use Rattle.tables.specs.Held.{no_security, held_trade, trade_table}
+use Rattle.tables.specs.Blanks.{no_security}
+use Rattle.tables.specs.Held.{held_trade, trade_table}
 use Rattle.tables.specs.Ranks.{Searchable}
 use Rattle.tables.specs.declared.Securities.{Securities}
 use Rattle.tables.specs.declared.Trade.{Trade}

@@ -8,7 +8,7 @@ use Rattle.tables.specs.Numbers.{code_number, number_place}
 use Rattle.answers.specs.declared.Refusal.{Refusal}
 use Rattle.answers.specs.declared.Refusal.TheVariants.{Count, Missing}
 use Rattle.answers.specs.declared.Refusal.TheVariants as refusals
-use Rattle.tables.specs.Held.{no_security}
+use Rattle.tables.specs.Blanks.{no_security}
 use Rattle.tables.specs.Ranks.{found_place}
 use Rattle.tables.specs.declared.Security.{Security}
 use Rattle.tables.specs.declared.Securities.{Securities}

@@ -10,7 +10,7 @@ use Rattle.paper.specs.Lists.{sum}
 use Rattle.paper.specs.Offsetting.{Book}
 use Rattle.paper.proofs.Lists.{each_at}
 use Rattle.tables.specs.declared.ClassRow.{ClassRow}
-use Rattle.tables.specs.Held.{no_class}
+use Rattle.tables.specs.Blanks.{no_class}
 use Rattle.offsetting.specs.Books.{book_of}
 use Rattle.margin.specs.Figures.{margin_in}
 use Rattle.margin.proofs.Backwards.{each_drop, drop_before, made_none, made_more, made_all}

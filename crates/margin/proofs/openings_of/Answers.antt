@@ -14,7 +14,7 @@ use Rattle.paper.specs.Rounding.{rounded}
 use Rattle.paper.specs.Bounds.{most_net_cents}
 use Rattle.paper.proofs.Lists.{each_at}
 use Rattle.whole.proofs.Signs.{read_back}
-use Rattle.tables.specs.Held.{no_security}
+use Rattle.tables.specs.Blanks.{no_security}
 use Rattle.offsetting.specs.declared.Book.{Book}
 use Rattle.margin.specs.Openings.{from_rank, net_at, no_book, with_net, openings_of}
 use Rattle.margin.proofs.Forwards.{ranks_before}

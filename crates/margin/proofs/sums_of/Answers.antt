@@ -16,7 +16,7 @@ use Rattle.paper.specs.Lists.{Each}
 use Rattle.paper.specs.Bounds.{most_mark, most_net_cents, most_mark_sum}
 use Rattle.paper.proofs.Lists.{each_at}
 use Rattle.whole.proofs.Signs.{read_back}
-use Rattle.tables.specs.Held.{no_security, no_trade}
+use Rattle.tables.specs.Blanks.{no_security, no_trade}
 use Rattle.tables.specs.declared.Security.{Security}
 use Rattle.tables.specs.declared.Trade.{Trade}
 use Rattle.valuation.specs.Valued.{value_of}

@@ -13,7 +13,7 @@ use Rattle.paper.specs.Lists.{between, every, first_that}
 use Rattle.paper.specs.Rows as paper
 use Rattle.paper.specs.Refusals.{has_class}
 use Rattle.paper.proofs.Lists.{bounds, every_at}
-use Rattle.tables.specs.Held.{no_class}
+use Rattle.tables.specs.Blanks.{no_class}
 use Rattle.tables.specs.Back.{paper_class}
 use Rattle.tables.specs.declared.ClassRow.{ClassRow}
 use Rattle.priorities.specs.Known.{known_from, known_of}

@@ -4,7 +4,7 @@ use Rattle.std.proofs.lemmas.List.Recursion.{or_is}
 use Rattle.paper.specs.Lists.{first_that}
 use Rattle.paper.specs.Refusals.{has_class}
 use Rattle.tables.specs.Back.{paper_class}
-use Rattle.tables.specs.Held.{no_class}
+use Rattle.tables.specs.Blanks.{no_class}
 use Rattle.tables.specs.declared.ClassRow.{ClassRow}
 use Rattle.reasons.proofs.has_class.Goals as goal
 

@@ -6,7 +6,7 @@ use mir.Val.{SFits}
 use mir.ValLaws.{to_z-of_z}
 use Rattle.paper.specs.Units.{Text, Class, SignedCents, SignedWhole}
 use Rattle.paper.specs.Rounding.{rounded}
-use Rattle.tables.specs.Held.{no_security}
+use Rattle.tables.specs.Blanks.{no_security}
 use Rattle.tables.specs.declared.Security.{Security}
 use Rattle.tables.specs.declared.Securities.{Securities}
 use Rattle.report.proofs.Loops.{texts, turn_room, turn}

@@ -5,7 +5,7 @@ use Rattle.paper.specs.Units.{Line, Class}
 use Rattle.paper.specs.Offsetting.{Book, offset_row, offset_all}
 use Rattle.paper.proofs.Lists.{each_at}
 use Rattle.paper.proofs.Totals.{remaining_most}
-use Rattle.tables.specs.Held.{no_priority}
+use Rattle.tables.specs.Blanks.{no_priority}
 use Rattle.tables.specs.declared.PriorityRow.{PriorityRow}
 use Rattle.offsetting.specs.Books.{book_of, row_of}
 use Rattle.offsetting.proofs.Rows.{row_more}

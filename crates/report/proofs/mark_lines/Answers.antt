@@ -7,7 +7,7 @@ use mir.ValLaws.{to_z-of_z}
 use Rattle.std.specs.Option.{UnwrapsOrElse, option_copied, unwrap_or}
 use Rattle.std.specs.Slice.{IsItemAt}
 use Rattle.paper.specs.Lists.{Each, nil, cons}
-use Rattle.tables.specs.Held.{no_security, no_trade}
+use Rattle.tables.specs.Blanks.{no_security, no_trade}
 use Rattle.tables.specs.declared.Security.{Security}
 use Rattle.report.specs.Texts.{mark_text}
 use Rattle.report.proofs.Loops.{texts, turn_room, turn}

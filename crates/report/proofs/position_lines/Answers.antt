@@ -5,7 +5,7 @@ use Rattle.paper.specs.Units.{Text}
 use Rattle.paper.specs.Offsetting.{position}
 use Rattle.paper.specs.Report.{Listing}
 use Rattle.paper.proofs.Lists.{each_at}
-use Rattle.tables.specs.Held.{no_class}
+use Rattle.tables.specs.Blanks.{no_class}
 use Rattle.tables.specs.declared.ClassRow.{ClassRow}
 use Rattle.margin.specs.declared.Currency.{Currency}
 use Rattle.report.specs.Texts.{listed_line, position_text}

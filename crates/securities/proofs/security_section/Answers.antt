@@ -5,7 +5,6 @@ use native.Mathlib.Omega.{arith}
 use mathlib.Core.Path.{◌≡◌, refl, sym, ap, ◌∙◌}
 use Rattle.std.proofs.Common.{Result}
 use lib.ListN.{length}
-use Rattle.arrayvec.proofs.ArrayVecLemmas.{items-with_items}
 use Rattle.tables.specs.Ranks.{ranked_of}
 use Rattle.sections.proofs.Rooms.{turn_start, judging_refused, judging_row, judging_broken, judging_ended}
 use Rattle.securities.proofs.Turns.{room, rule_of, judge, turn_judged, turn_small, turn_class, turn_room, turn_known, turn_new, turn_more, turn_table}
@@ -13,6 +12,7 @@ use Rattle.securities.specs.Ranks.{with_rank}
 use Rattle.securities.proofs.security_section.Goals as goal
 use Rattle.securities.proofs.security_section.Goals.{in-Err, in_default-standing}
 use mathlib.Core.List.{List}
+use Rattle.arrayvec.specs.ArrayVec.{ArrayVec}
 
 -- Where a number stands among numbers, by what was found of a slice of them
 stands : {numbers items : List ℕ} {found place : Result ℕ ℕ} (own : ℕ) → numbers ≡ items → found ≡ ranked_of numbers own → found ≡ place → ranked_of items own ≡ place
@@ -48,13 +48,13 @@ loop-last-smaller c =
     let r = judging_row (judge c.args.classes.now.items) c.loop-last.invariant c.requires.1 c.goes_on.ensures c.loop-last-test.true c.security_row-read.ensures c.in-Ok.is in
     omega (arith, r.further, c.requires.1)
 
-pub insert-requires : goal.insert-requires
-insert-requires c =
+pub inserted-requires : goal.inserted-requires
+inserted-requires c =
     let cs = c.args.classes.now.items in
     let r = judging_row (judge cs) c.loop-last.invariant c.requires.1 c.goes_on.ensures c.loop-last-test.true c.security_row-read.ensures c.in-Ok.is in
     let judged = turn_judged cs c.loop-last.invariant c.in-Ok.row c.as_slice.ensures.value c.as_slice-in-loop-last.ensures.value c.ranked-standing.ensures c.is_ok.ensures.value c.class_of-class.ensures c.judged-judged.ensures in
     let ok = judged ∙ c.in-Ok-judged.is in
-    (omega arith, turn_room cs c.loop-last.invariant r ok (stands _ c.as_slice.ensures.value c.ranked-standing.ensures c.in-Err.is))
+    turn_room cs c.loop-last.invariant r ok (stands _ c.as_slice.ensures.value c.ranked-standing.ensures c.in-Err.is)
 
 pub loop-last-preserved : goal.loop-last-preserved
 loop-last-preserved c =
@@ -66,7 +66,7 @@ loop-last-preserved c =
       | in-Err w ↦
           rw (c.push.ensures.items, c.push-in-loop-last.ensures.items, w.table-is, c.security_of.ensures, c.len-count.ensures.value)
           (turn_more cs c.loop-last.invariant r ok
-          (w.insert.ensures.items ∙ turn_new cs c.loop-last.invariant r ok (stands _ c.as_slice.ensures.value c.ranked-standing.ensures w.in-Err.is)))
+          (ap (λ (t : ArrayVec ℕ). t.items) w.inserted.ensures ∙ turn_new cs c.loop-last.invariant r ok (stands _ c.as_slice.ensures.value c.ranked-standing.ensures w.in-Err.is)))
       | in_default-standing w ↦
           rw (c.push.ensures.items, c.push-in-loop-last.ensures.items, w.table-is, c.security_of.ensures, c.len-count.ensures.value)
           (turn_more cs c.loop-last.invariant r ok
@@ -77,9 +77,7 @@ pub returns : goal.returns
 returns c =
     let cs = c.args.classes.now.items in
     let table = c.loop-last.table in
-    let ranks : c.with_ranks.new.rows ≡ with_rank table.currencies.items c.loop-last.money.items table.rows.items =
-    c.with_ranks.ensures ∙ (λ i. with_rank (c.as_slice-3.ensures.value i) (c.as_slice-2.ensures.value i) (c.as_mut_slice.ensures.value i)) in
-    let size = c.with_ranks.auto.rows ∙ ap length c.as_mut_slice.ensures.value in
-    let rows = items-with_items table.rows c.with_ranks.new.rows size ∙ ranks in
+    let ranks : c.with_ranks.new.rows.items ≡ with_rank table.currencies.items c.loop-last.money.items table.rows.items =
+    c.with_ranks.ensures ∙ (λ i. with_rank (c.as_slice-3.ensures.value i) (c.as_slice-2.ensures.value i) table.rows.items) in
     judging_ended (judge cs) c.loop-last.invariant c.requires.1 c.goes_on.ensures c.loop-last-test.false
-    ((λ i. record { rows = record { items = rows i }; codes = table.codes; currencies = table.currencies }) ∙ turn_table cs c.loop-last.invariant)
+    ((λ i. record { rows = record { items = ranks i }; codes = table.codes; currencies = table.currencies }) ∙ turn_table cs c.loop-last.invariant)

@@ -8,7 +8,7 @@ use mathlib.Core.Path.{◌≡◌, sym, ap, ◌∙◌}
 use lib.ListN.{get_or}
 use lib.Seq.{take_all}
 use Rattle.std.proofs.Common.{Result, Ok, Err}
-use Rattle.tables.specs.Held.{no_security}
+use Rattle.tables.specs.Blanks.{no_security}
 use Rattle.tables.specs.Ranks.{rank_of}
 use Rattle.tables.proofs.Over.{over_more}
 use Rattle.tables.proofs.Ranks.{rank_most}
@@ -20,8 +20,8 @@ use Rattle.securities.proofs.with_ranks.Goals.{in-Ok, in-Ok-2}
 either : {r : Result ℕ ℕ} {rank : ℕ} → (r ≡ Ok rank) ⊎ (r ≡ Err rank) → rank ≡ rank_of r
 either = ⊎_elim (λ e. ap rank_of (sym e)) (λ e. ap rank_of (sym e))
 
-pub overflow_cast-rows : goal.overflow_cast-rows
-overflow_cast-rows c =
+pub overflow_cast-row : goal.overflow_cast-row
+overflow_cast-row c =
     let a = c.args in
     let rank : c.match-ranked.rank ≡ rank_of c.ranked.result =
     elim c.match-ranked.branch [ in-Ok w ↦ w.rank-is ∙ either w.in-Ok.is | in-Ok-2 w ↦ w.rank-is ∙ either w.in-Ok.is ] in
@@ -32,10 +32,10 @@ loop-i-preserved c =
     let a = c.args in
     let rank : c.match-ranked.rank ≡ rank_of c.ranked.result =
     elim c.match-ranked.branch [ in-Ok w ↦ w.rank-is ∙ either w.in-Ok.is | in-Ok-2 w ↦ w.rank-is ∙ either w.in-Ok.is ] in
-    let row = over_more (ranked_security a.currencies.now) a.money.now a.rows.now c.loop-i.i 0 no_security (omega arith) (omega arith) in
+    let row = over_more (ranked_security a.currencies.now) a.money.now a.rows.now.items c.loop-i.i 0 no_security (omega arith) (omega arith) in
     rw (rank, c.ranked.ensures, c.loop-i.invariant, add-one c.loop-i.i) row
 
 pub returns : goal.returns
 returns c =
     let a = c.args in
-    c.loop-i.invariant ∙ ap (λ (ms : List ℕ). with_rank a.currencies.now ms a.rows.now) (take_all c.loop-i.i a.money.now (omega arith))
+    c.loop-i.invariant ∙ ap (λ (ms : List ℕ). with_rank a.currencies.now ms a.rows.now.items) (take_all c.loop-i.i a.money.now (omega arith))

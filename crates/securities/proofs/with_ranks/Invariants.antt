@@ -5,4 +5,4 @@ use Rattle.securities.specs.Ranks.{with_rank}
 use Rattle.securities.proofs.with_ranks.Given as goal
 
 abbrev pub invariant-loop-i : goal.invariant-loop-i
-invariant-loop-i l = l.rows ≡ with_rank l.currencies (take l.i l.money) l.initial.rows
+invariant-loop-i l = l.rows.items ≡ with_rank l.currencies (take l.i l.money) l.initial.rows.items

@@ -3,7 +3,7 @@ use Rattle.std.proofs.Common.{ap, refl, ◌∙◌, arith, add-one}
 use Rattle.paper.specs.Offsetting.{offset_row, offset_all}
 use Rattle.paper.proofs.Lists.{each_at}
 use Rattle.paper.proofs.Totals.{remaining_most}
-use Rattle.tables.specs.Held.{no_priority}
+use Rattle.tables.specs.Blanks.{no_priority}
 use Rattle.offsetting.specs.Books.{row_of}
 use Rattle.offsetting.proofs.Rows.{row_more}
 use Rattle.offsetting.proofs.Book.offset_all.Goals as goal
