@@ -48,13 +48,13 @@ loop-last-smaller c =
     let r = judging_row (judge c.args.classes.now.items) c.loop-last.invariant c.requires.1 c.goes_on.ensures c.loop-last-test.true c.security_row-read.ensures c.in-Ok.is in
     omega (arith, r.further, c.requires.1)
 
-pub inserted-requires : goal.inserted-requires
-inserted-requires c =
+pub inserted-table-requires : goal.inserted-table-requires
+inserted-table-requires c =
     let cs = c.args.classes.now.items in
     let r = judging_row (judge cs) c.loop-last.invariant c.requires.1 c.goes_on.ensures c.loop-last-test.true c.security_row-read.ensures c.in-Ok.is in
     let judged = turn_judged cs c.loop-last.invariant c.in-Ok.row c.as_slice.ensures.value c.as_slice-in-loop-last.ensures.value c.ranked-standing.ensures c.is_ok.ensures.value c.class_of-class.ensures c.judged-judged.ensures in
     let ok = judged ∙ c.in-Ok-judged.is in
-    turn_room cs c.loop-last.invariant r ok (stands _ c.as_slice.ensures.value c.ranked-standing.ensures c.in-Err.is)
+    (turn_room cs c.loop-last.invariant r ok (stands _ c.as_slice.ensures.value c.ranked-standing.ensures c.in-Err.is)).1
 
 pub loop-last-preserved : goal.loop-last-preserved
 loop-last-preserved c =
@@ -66,7 +66,7 @@ loop-last-preserved c =
       | in-Err w ↦
           rw (c.push.ensures.items, c.push-in-loop-last.ensures.items, w.table-is, c.security_of.ensures, c.len-count.ensures.value)
           (turn_more cs c.loop-last.invariant r ok
-          (ap (λ (t : ArrayVec ℕ). t.items) w.inserted.ensures ∙ turn_new cs c.loop-last.invariant r ok (stands _ c.as_slice.ensures.value c.ranked-standing.ensures w.in-Err.is)))
+          (ap (λ (t : ArrayVec ℕ). t.items) w.inserted-table.ensures ∙ turn_new cs c.loop-last.invariant r ok (stands _ c.as_slice.ensures.value c.ranked-standing.ensures w.in-Err.is)))
       | in_default-standing w ↦
           rw (c.push.ensures.items, c.push-in-loop-last.ensures.items, w.table-is, c.security_of.ensures, c.len-count.ensures.value)
           (turn_more cs c.loop-last.invariant r ok
