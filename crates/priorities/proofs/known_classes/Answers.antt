@@ -1,5 +1,5 @@
 -- `priorities::known_classes` meets its contract. The loop's invariant: a class is known where it has one of the rows so far.
-use Prim.Native.Nat.{ℕ, zero, suc, ◌+◌, ◌≤◌, ◌<◌}
+use Prim.Native.Nat.{ℕ, zero, suc, ◌+◌, ◌<◌}
 use native.Mathlib.Numerals.{add-one}
 use native.Mathlib.Omega.{arith}
 use mathlib.Core.Bool.{Bool, true, false}
@@ -9,15 +9,16 @@ use borrow.Author.Tests.{eq-eqb, ne_eqb}
 use lib.Dec.{eqb}
 use lib.ListN.{length, get_or, take, set}
 use lib.Seq.{take-suc}
-use Rattle.paper.specs.Lists.{between, every, first_that}
+use Rattle.std.proofs.lemmas.List.{set_past}
+use Rattle.paper.specs.Lists.{first_that}
 use Rattle.paper.specs.Rows as paper
 use Rattle.paper.specs.Refusals.{has_class}
-use Rattle.paper.proofs.Lists.{bounds, every_at}
 use Rattle.tables.specs.Blanks.{no_class}
 use Rattle.tables.specs.Back.{paper_class}
 use Rattle.tables.specs.declared.ClassRow.{ClassRow}
 use Rattle.priorities.specs.Known.{known_from, known_of}
 use Rattle.priorities.proofs.known_classes.Goals as goal
+use Rattle.priorities.proofs.known_classes.Goals.{then-row-le40, else-row-le40}
 
 -- A row more: its own class has a row, and any other has one where it had one
 module _ (c : paper.ClassRow) where
@@ -63,18 +64,17 @@ known_row rows i h known e =
     ∙ known_more (paper_class c) 41 0 c.class (map paper_class (take i rows)) (omega arith)
     ∙ ap known_of front
 
--- The class of a row is at most 40
-low : (rows : List ClassRow) (i : ℕ) → i < length rows → every (λ (r : ClassRow). between 1 40 r.class) rows ≡ true → (get_or rows i no_class).class ≤ 40
-low rows i h ranged = (bounds 1 40 (get_or rows i no_class).class (every_at (λ r. between 1 40 r.class) rows no_class ranged i h)).1
-
+-- In a turn the class of the row at hand is made known; one above 40 has no place among them
 pub loop-row-preserved : goal.loop-row-preserved
 loop-row-preserved c =
+    let l = c.loop-row in
+    let i = l.row-index in
+    let rows = c.args.classes.now.items in
     let same = c.as_slice-row-items.ensures.value in
     let size = ap length same in
-    rw same (known_row c.args.classes.now.items c.loop-row.row-index (omega arith) c.loop-row.known c.loop-row.invariant)
-
-pub bounds-known-row : goal.bounds-known-row
-bounds-known-row c =
-    let same = c.as_slice-row-items.ensures.value in
-    let size = ap length same in
-    rw same (omega (arith, low c.args.classes.now.items c.loop-row.row-index (omega arith) c.requires))
+    let own = ap (λ (rows : List ClassRow). set l.known (get_or rows i no_class).class true) same in
+    let more = own ∙ known_row rows i (omega (arith, c.loop-row-test.true, size)) l.known l.invariant in
+    elim c.if-row-le40.branch [
+      | then-row-le40 w ↦ w.known-is ∙ more
+      | else-row-le40 w ↦ w.known-is ∙ sym (set_past l.known _ true (omega (arith, ap length l.invariant, w.if-row-le40.false))) ∙ more
+    ]
