@@ -2,12 +2,12 @@
 // priority list took from it, and the remaining side that set the margin.
 #![tactic(auto)]
 
-ghost use Rattle.std.specs.Prelude.{◌≡◌, ℕ, ◌+◌, ◌≤◌, ◌<◌, pos, nat_abs, map, length, get_or};
+ghost use Rattle.std.specs.Prelude.{◌≡◌, ℕ, ◌+◌, ◌≤◌, ◌<◌, pos, nat_abs, length, get_or};
 ghost use Rattle.paper.specs.Lists.{Each};
 ghost use Rattle.paper.specs.Refusals.{has_class};
 ghost use Rattle.paper.specs.Offsetting.{offset_row};
 ghost use Rattle.paper.specs.Bounds.{most_net_cents, PriorityFacts, BookFacts};
-ghost use Rattle.tables.specs.Back.{paper_class};
+ghost use Rattle.tables.specs.Back.{paper_classes};
 ghost use Rattle.offsetting.specs.Books.{book_of, row_of};
 ghost use Rattle.lines.specs.Written.{Wrote};
 ghost use Rattle.reasons.specs.Texts.{asked_of, net_line_if, net_texts, taken_line_if, row_text, remaining_text, reason_text, Explainable};
@@ -15,17 +15,22 @@ ghost use Rattle.reasons.specs.Texts.{asked_of, net_line_if, net_texts, taken_li
 use lines::Place;
 use margin::Opening;
 use offsetting::{Book, Whole};
-use tables::{ClassRow, Code, PriorityRow, Securities, Tables};
+use tables::{Classes, Code, PriorityRow, Securities, Tables};
 use valuation::SignedCents;
 
-// Whether a class has a C row.
+// Whether a class has a C row. Up to 40 it is looked up as the classes of an O row are; above that, where no C row of a sheet is,
+// row by row.
 fn has_class(
-    classes: &[ClassRow],
+    classes: &Classes,
     class: u64, // any number
 ) -> bool
-    ensures { result ≡ has_class (map paper_class classes.now) class }
+    ensures { result ≡ has_class (paper_classes classes.now) class }
 {
-    classes.iter().any(|row| row.class == class)
+    if 40 < class {
+        return classes.as_slice().iter().any(|row| row.class == class);
+    }
+    let known = priorities::known_classes(classes);
+    known[class as usize]
 }
 
 // The rank of a currency, by any bytes, where the tables have it and a class, by any number.
@@ -38,7 +43,7 @@ pub fn asked(
 {
     let own = codes::currency(currency)?;
     let rank = tables::ranked(tables.securities.currencies.as_slice(), own).ok()?;
-    has_class(tables.classes.as_slice(), class).then_some(rank)
+    has_class(&tables.classes, class).then_some(rank)
 }
 
 // The P line of a security, where it is one of those asked for and its net is not zero.
