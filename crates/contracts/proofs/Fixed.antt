@@ -1,4 +1,11 @@
 -- What it is that a contract fixes its answer, and the law behind every entry of the list.
+use Prim.Native.Nat.{ℕ}
+use denote.RattleType.{RattleType}
+use denote.Param.Laws.{Laws, IsCopy}
+use mir.Syntax.{Dict, w64}
+use mir.Val.{Fits}
+use Rattle.std.specs.declared.clone.Clone as clone
+use Rattle.tables.specs.declared.rows.Blank as blank
 use mathlib.Core.Path.{◌≡◌, sym, ap₂, ◌∙◌}
 
 module _ {K : Type 0} {A R S : K → Type 0} (post : (κs : K) → A κs → R κs → S κs → Type 0) where
@@ -10,6 +17,16 @@ module _ {K : Type 0} {A R S : K → Type 0} (post : (κs : K) → A κs → R �
   -- It fixes the result
   abbrev pub Fixes : Type 0
   Fixes = (κs : K) (a : A κs) (x y : R κs) (s u : S κs) → post κs a x s → post κs a y u → x ≡ y
+
+module _ {K : Type 0} {A R S : RattleType → ℕ → Type 0}
+    (post : (T : RattleType) (n : ℕ) → Laws T → Fits w64 n → IsCopy T → blank.Ghosts T.Denot → Dict → clone.Ghosts T.Denot → Dict
+        → K → A T n → R T n → S T n → Type 0) where
+  -- The same of a contract over the type of rows and their most: it fixes what is seen of result and of what is lent at exit
+  abbrev pub FixesRows : {B : RattleType → ℕ → Type 0} → ((T : RattleType) (n : ℕ) → R T n → S T n → B T n) → Type 2
+  FixesRows {B} seen =
+      (T : RattleType) (n : ℕ) (laws : Laws T) (fits : Fits w64 n) (copy : IsCopy T) (b : blank.Ghosts T.Denot) (bd : Dict) (c : clone.Ghosts T.Denot) (cd : Dict)
+      (κs : K) (a : A T n) (x y : R T n) (s u : S T n)
+      → post T n laws fits copy b bd c cd κs a x s → post T n laws fits copy b bd c cd κs a y u → ◌≡◌ {A = B T n} (seen T n x s) (seen T n y u)
 
 -- The law: what equals one thing is equal
 pub one : {A : Type 0} {x y d : A} → x ≡ d → y ≡ d → x ≡ y

@@ -4,7 +4,7 @@ use Prim.Native.Nat.{ℕ}
 use Rattle.offsetting.specs.Books.{book_of}
 use Rattle.paper.specs.Units.{Text}
 use Rattle.lines.specs.Written.{Place}
-use Rattle.contracts.proofs.Fixed.{FixesSeen, Fixes, one, both}
+use Rattle.contracts.proofs.Fixed.{FixesSeen, FixesRows, Fixes, one, both}
 use Rattle.whole.proofs.nearest.Reads as whole_nearest
 use Rattle.whole.proofs.least.Reads as whole_least
 use Rattle.whole.proofs.greatest.Reads as whole_greatest
@@ -24,6 +24,14 @@ use Rattle.days.proofs.is_open.Reads as days_is_open
 use Rattle.days.proofs.working_after.Reads as days_working_after
 use Rattle.days.proofs.new_years.Reads as days_new_years
 use Rattle.tables.proofs.Securities.new.Reads as tables_Securities_new
+use Rattle.tables.proofs.rows.Rows.new.Reads as tables_Rows_new
+use Rattle.tables.proofs.rows.Rows.len.Reads as tables_Rows_len
+use Rattle.tables.proofs.rows.Rows.as_slice.Reads as tables_Rows_as_slice
+use Rattle.tables.proofs.rows.Rows.push.Reads as tables_Rows_push
+use Rattle.tables.proofs.rows.Rows.set.Reads as tables_Rows_set
+use Rattle.tables.proofs.no_security.Reads as tables_no_security
+use Rattle.tables.proofs.no_tables.Reads as tables_no_tables
+use Rattle.tables.proofs.inserted.Reads as tables_inserted
 use Rattle.tables.proofs.find.Reads as tables_find
 use Rattle.tables.proofs.ranked.Reads as tables_ranked
 use Rattle.places.proofs.ended.Reads as places_ended
@@ -134,6 +142,30 @@ days_new_years_fixed κs a x y s u p q = one p q
 
 pub tables_Securities_new_fixed : Fixes tables_Securities_new.Post
 tables_Securities_new_fixed κs a x y s u p q = one p q
+
+pub tables_Rows_new_fixed : FixesRows tables_Rows_new.Post (λ T n x s. x.items)
+tables_Rows_new_fixed T n laws fits copy b bd c cd κs a x y s u p q = one p q
+
+pub tables_Rows_len_fixed : FixesRows tables_Rows_len.Post (λ T n x s. x)
+tables_Rows_len_fixed T n laws fits copy b bd c cd κs a x y s u p q = one p.0 q.0
+
+pub tables_Rows_as_slice_fixed : FixesRows tables_Rows_as_slice.Post (λ T n x s. x.now)
+tables_Rows_as_slice_fixed T n laws fits copy b bd c cd κs a x y s u p q = one p.0 q.0
+
+pub tables_Rows_push_fixed : FixesRows tables_Rows_push.Post (λ T n x s. s.0.now.items)
+tables_Rows_push_fixed T n laws fits copy b bd c cd κs a x y s u p q = one p.0 q.0
+
+pub tables_Rows_set_fixed : FixesRows tables_Rows_set.Post (λ T n x s. s.0.now.items)
+tables_Rows_set_fixed T n laws fits copy b bd c cd κs a x y s u p q = one p q
+
+pub tables_no_security_fixed : Fixes tables_no_security.Post
+tables_no_security_fixed κs a x y s u p q = one p q
+
+pub tables_no_tables_fixed : Fixes tables_no_tables.Post
+tables_no_tables_fixed κs a x y s u p q = one p q
+
+pub tables_inserted_fixed : Fixes tables_inserted.Post
+tables_inserted_fixed κs a x y s u p q = one p q
 
 pub tables_find_fixed : Fixes tables_find.Post
 tables_find_fixed κs a x y s u p q = one p q
