@@ -20,7 +20,7 @@ module _ {K : Type 0} {A R S : K → Type 0} (post : (κs : K) → A κs → R �
 
 module _ {K : Type 0} {A R S : RattleType → ℕ → Type 0}
     (post : (T : RattleType) (n : ℕ) → Laws T → Fits w64 n → IsCopy T → blank.Ghosts T.Denot → Dict → clone.Ghosts T.Denot → Dict
-        → K → A T n → R T n → S T n → Type 0) where
+    → K → A T n → R T n → S T n → Type 0) where
   -- The same of a contract over the type of rows and their most: it fixes what is seen of result and of what is lent at exit
   abbrev pub FixesRows : {B : RattleType → ℕ → Type 0} → ((T : RattleType) (n : ℕ) → R T n → S T n → B T n) → Type 2
   FixesRows {B} seen =

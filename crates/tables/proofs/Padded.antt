@@ -53,10 +53,9 @@ pub filled_more : {H : Type 0} (most count : ℕ) (x h : H) (ps : List H) → Fi
 filled_more {H} most count x h ps f l =
     let size : length (take count ps) ≡ count = length-take-le count ps f.0 in
     let stored : set ps count h ≡ padded most x (take count ps ++ (h ∷ [])) =
-        ap (λ (qs : List H). set qs count h) f.2
-        ∙ ap (λ (n : ℕ). set (padded most x (take count ps)) n h) (sym size)
-        ∙ padded_more most x h (take count ps) (omega (arith, size)) in
-    (
+    ap (λ (qs : List H). set qs count h) f.2
+    ∙ ap (λ (n : ℕ). set (padded most x (take count ps)) n h) (sym size)
+    ∙ padded_more most x h (take count ps) (omega (arith, size)) in (
       omega (arith, length-set ps count h, f.1),
       length-set ps count h ∙ f.1,
       stored ∙ ap (padded most x) (sym (take_more_set ps count h (omega (arith, f.1)))),
@@ -67,10 +66,9 @@ pub filled_set : {H : Type 0} (most count i : ℕ) (x h : H) (ps : List H) → F
 filled_set {H} most count i x h ps f l =
     let size : length (take count ps) ≡ count = length-take-le count ps f.0 in
     let stored : set ps i h ≡ padded most x (set (take count ps) i h) =
-        ap (λ (qs : List H). set qs i h) f.2
-        ∙ sym (take-set-lt most (take count ps ++ replicate most x) i h (omega (arith, f.0, f.1)))
-        ∙ ap (take most) (set-append_left (take count ps) (replicate most x) i h (omega (arith, size))) in
-    (
+    ap (λ (qs : List H). set qs i h) f.2
+    ∙ sym (take-set-lt most (take count ps ++ replicate most x) i h (omega (arith, f.0, f.1)))
+    ∙ ap (take most) (set-append_left (take count ps) (replicate most x) i h (omega (arith, size))) in (
       omega (arith, length-set ps i h, f.0),
       length-set ps i h ∙ f.1,
       stored ∙ ap (padded most x) (sym (take-set-lt count ps i h l)),

@@ -43,8 +43,7 @@ loop-i-preserved c =
     let a = c.args in
     let rank : c.match-ranked.rank ≡ rank_of c.ranked.result =
     elim c.match-ranked.branch [ in-Ok w ↦ w.rank-is ∙ either w.in-Ok.is | in-Ok-2 w ↦ w.rank-is ∙ either w.in-Ok.is ] in
-    let row = over_more (ranked_security a.currencies.now) a.money.now a.rows.now.items c.loop-i.i 0 no_security (omega arith) (omega (arith, c.requires.0)) in
-    (
+    let row = over_more (ranked_security a.currencies.now) a.money.now a.rows.now.items c.loop-i.i 0 no_security (omega arith) (omega (arith, c.requires.0)) in (
       ap length c.set.ensures ∙ length-set c.loop-i.rows.items c.loop-i.i _ ∙ c.loop-i.invariant.0,
       rw (c.set.ensures, c.as_slice.ensures.value, rank, c.ranked.ensures, c.loop-i.invariant.1, add-one c.loop-i.i) row,
     )
