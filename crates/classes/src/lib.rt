@@ -155,10 +155,15 @@ fn kind_of(
 }
 
 // The number of the first class of a kind whose border is not below a duration.
+// By a `for`, and not by `find`, which answers with an option of a reference: 32-bit code reads it otherwise (docs/DECISIONS.md,
+// "Hosts").
 pub fn class_of(rows: &[ClassRow], kind: Kind, duration: Duration) -> Option<Class>
     ensures { result ≡ class_in rows.now kind duration }
 {
-    rows.iter()
-        .find(|row| kind_of(row.kind) == kind && duration <= row.border)
-        .map(|row| row.class)
+    for row in rows {
+        if kind_of(row.kind) == kind && duration <= row.border {
+            return Some(row.class);
+        }
+    }
+    None
 }

@@ -27,6 +27,7 @@ use Rattle.tables.proofs.Securities.new.Reads as tables_Securities_new
 use Rattle.tables.proofs.rows.Rows.new.Reads as tables_Rows_new
 use Rattle.tables.proofs.rows.Rows.len.Reads as tables_Rows_len
 use Rattle.tables.proofs.rows.Rows.as_slice.Reads as tables_Rows_as_slice
+use Rattle.tables.proofs.rows.Rows.at.Reads as tables_Rows_at
 use Rattle.tables.proofs.rows.Rows.push.Reads as tables_Rows_push
 use Rattle.tables.proofs.rows.Rows.set.Reads as tables_Rows_set
 use Rattle.tables.proofs.no_security.Reads as tables_no_security
@@ -151,6 +152,9 @@ tables_Rows_len_fixed T n laws fits copy b bd c cd κs a x y s u p q = one p.0 q
 
 pub tables_Rows_as_slice_fixed : FixesRows tables_Rows_as_slice.Post (λ T n x s. x.now)
 tables_Rows_as_slice_fixed T n laws fits copy b bd c cd κs a x y s u p q = one p.0 q.0
+
+pub tables_Rows_at_fixed : FixesRows tables_Rows_at.Post (λ T n x s. x)
+tables_Rows_at_fixed T n laws fits copy b bd c cd κs a x y s u p q = one p q
 
 pub tables_Rows_push_fixed : FixesRows tables_Rows_push.Post (λ T n x s. s.0.now.items)
 tables_Rows_push_fixed T n laws fits copy b bd c cd κs a x y s u p q = one p.0 q.0

@@ -13,15 +13,17 @@ use tables::{Code, Money};
 // Handed on beside the buffer: no plainer in a struct that holds both, whose every clause would have to say that it holds the same one.
 pub type Place = usize; // in the report, bytes
 
-// A text as it is.
+// A text as it is. Byte by byte, as std's copy of a slice casts an address to a number, which 32-bit code reads otherwise
+// (docs/DECISIONS.md).
 #[inline(always)]
 fn put(report: &mut [u8], at: Place, text: &[u8]) -> Place
     requires { at + length text.now ≤ length report.old }
     ensures { Wrote text.now at report.old result report.new }
 {
-    let behind = at + text.len();
-    report[at..behind].copy_from_slice(text);
-    behind
+    for (i, &byte) in text.iter().enumerate() {
+        report[at + i] = byte;
+    }
+    at + text.len()
 }
 
 // A number in digits: as many as it has powers of ten, and one.

@@ -3,7 +3,7 @@ use Prim.Native.Nat.{ℕ, zero, suc, ◌+◌, ◌≤◌, ◌<◌}
 use native.Mathlib.Nat.{le_trans, mul-le-mul_right}
 use native.Mathlib.Omega.{arith}
 use mathlib.Core.List.{List, [], ◌∷◌}
-use mathlib.Core.Path.{◌≡◌, refl, ap₂, ◌∙◌}
+use mathlib.Core.Path.{◌≡◌, refl, sym, ap, ap₂, ◌∙◌}
 use lib.IntN.{pos, nat_abs}
 use lib.ListN.{length, get_or, set}
 use mir.Syntax.{w64}
@@ -85,6 +85,10 @@ pub opening_most : (t : Tables) → TablesRanged t → length t.trades.items ≤
     → BookFacts (opening_book t rank)
 opening_most t ranged trades securities =
     book_most t.securities.rows.items (trade_sums t).worths (table_worths_most t ranged trades) (length t.securities.rows.items) 0 securities
+
+-- Sums over rows are those over a slice of them
+pub over_slice : {ts : List Trade} {ss rows : List Security} {sums : Sums} → sums ≡ sums_of rows ts → ss ≡ rows → sums ≡ sums_of ss ts
+over_slice {ts = ts} summed same = summed ∙ ap (λ (ss : List Security). sums_of ss ts) (sym same)
 
 -- Slices that are the rows of tables, and their sums
 module _ (t : Tables) (ranged : TablesRanged t) {ts : List Trade} {ss : List Security} (trades : ts ≡ t.trades.items)

@@ -88,9 +88,9 @@ fn add_to(
 }
 
 // The trades valued and summed, from the last to the first.
-fn sums_of(trades: &[Trade], securities: &[Security]) -> Sums
-    requires { (length trades.now ≤ 500) × Each (Placed securities.now) trades.now }
-    ensures { result ≡ sums_of securities.now trades.now }
+fn sums_of(trades: &[Trade], securities: &Rows<Security, 200>) -> Sums
+    requires { (length trades.now ≤ 500) × Each (Placed securities.now.items) trades.now }
+    ensures { result ≡ sums_of securities.now.items trades.now }
 {
     let mut sums = Sums {
         marks: [0; 500],
@@ -100,7 +100,7 @@ fn sums_of(trades: &[Trade], securities: &[Security]) -> Sums
     // By index: backwards over an iterator, an invariant has the items so far and no place to write a mark at.
     for i in (0..trades.len()).rev() {
         let place = trades[i].security as usize; // among the securities
-        let security = securities.get(place).copied().unwrap_or_default(); // zeros behind the rows
+        let security = securities.at(place); // zeros behind the rows
         let valued = valuation::value_of(trades[i], security);
         sums.marks[i] = valued.mark;
         add_to(&mut sums.worths, place, valued.worth);
@@ -151,7 +151,7 @@ pub fn opening_of(
 {
     let trades = tables.trades.as_slice();
     let securities = tables.securities.rows.as_slice();
-    let Sums { worths, .. } = sums_of(trades, securities);
+    let Sums { worths, .. } = sums_of(trades, &tables.securities.rows);
     let openings = openings_of(securities, &worths);
     let book = openings[rank]; // whole units
     Opening { worths, book }
@@ -235,7 +235,7 @@ pub fn figures_of(tables: &Tables) -> Figures
         marks,
         worths,
         totals,
-    } = sums_of(trades, securities);
+    } = sums_of(trades, &tables.securities.rows);
     let openings = openings_of(securities, &worths);
     let mut currencies = Rows::new();
     // By rank: openings and totals have places that no currency has.

@@ -41,13 +41,17 @@ impl Line {
 }
 
 // The place behind the last LF: each line that starts before it has its LF.
+// By a `for` over places, and not by `rposition`, in which there are options of references: 32-bit code reads these otherwise
+// (docs/DECISIONS.md, "Hosts").
 pub fn ended(s: &[u8]) -> Place
     ensures { result ≡ ended_length s.now }
 {
-    match s.iter().rposition(|&b| b == b'\n') {
-        Some(n) => n + 1,
-        None => 0,
+    for i in (0..s.len()).rev() {
+        if s[i] == b'\n' {
+            return i + 1;
+        }
     }
+    0
 }
 
 // The line that starts at a place. An LF stands right before `end`, so that the line has one.

@@ -27,7 +27,13 @@ fn has_class(
     ensures { result ≡ has_class (paper_classes classes.now) class }
 {
     if 40 < class {
-        return classes.as_slice().iter().any(|row| row.class == class);
+        // No `any`, whose items 32-bit code reads otherwise (docs/DECISIONS.md).
+        for row in classes.as_slice() {
+            if row.class == class {
+                return true;
+            }
+        }
+        return false;
     }
     let known = priorities::known_classes(classes);
     known[class as usize]

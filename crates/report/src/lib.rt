@@ -37,23 +37,16 @@ fn mark_lines(report: &mut [u8], tables: &Tables, figures: &Figures) -> Place
     requires room { length (mark_texts tables.now figures.now) ≤ length report.old }
     ensures { Wrote (mark_texts tables.now figures.now) 0 report.old result report.new }
 {
-    let securities = tables.securities.rows.as_slice();
-    let currencies = tables.securities.currencies.as_slice();
+    let securities = &tables.securities.rows;
     let first = 3 + tables.classes.len() + tables.priorities.len() + securities.len(); // line
     let mut at: Place = 0;
     for (i, trade) in tables.trades.as_slice().iter().enumerate() {
-        let security = securities
-            .get(trade.security as usize)
-            .copied()
-            .unwrap_or_default();
+        let security = securities.at(trade.security as usize);
         at = put_mark(
             report,
             at,
             trade.margined,
-            currencies
-                .get(security.currency as usize)
-                .copied()
-                .unwrap_or_default(),
+            tables.securities.currencies.at(security.currency as usize),
             (first + i) as u64,
             figures.marks[i],
         );
@@ -126,8 +119,12 @@ fn currency_lines(
     ensures { Wrote (currency_texts full tables.now figures.now) from report.old result report.new }
 {
     let known = tables.securities.currencies.as_slice();
+    let each = figures.currencies.as_slice();
     let mut at = from;
-    for (&money, currency) in known.iter().zip(figures.currencies.as_slice()) {
+    // By rank, and no `zip`: 32-bit code reads otherwise the options of references that its `next` gives.
+    for rank in 0..known.len().min(each.len()) {
+        let money = known[rank];
+        let currency = &each[rank];
         let behind = position_lines(report, at, full, money, &tables.classes, currency);
         at = lines::total_line(
             report,

@@ -1,7 +1,7 @@
 // Rows in their order, in a value that lies where it stands and is copied as plain numbers are. A contract sees the rows alone, as
 // it does those of an `ArrayVec`, which is no `Copy`: here blanks stand behind the rows, so that the rows tell all of the value.
 
-ghost use Rattle.std.specs.Prelude.{⊤, ◌≡◌, ◌+◌, ◌<◌, ◌≤◌, ◌++◌, ◌∷◌, [], length, slice_set};
+ghost use Rattle.std.specs.Prelude.{⊤, ◌≡◌, ◌+◌, ◌<◌, ◌≤◌, ◌++◌, ◌∷◌, [], length, get_or, slice_set};
 ghost use Rattle.arrayvec.specs.ArrayVec.{array_vec_len};
 
 use std::alloc::AllocError;
@@ -82,6 +82,22 @@ impl<T: Blank, const CAP: usize> Rows<T, CAP> {
         ensures fits { length result.now ≤ CAP }
     {
         &self.places[..self.count]
+    }
+
+    // A row by its place, or what stands where there is none. No `Option` of a reference, which 32-bit code reads otherwise
+    // (docs/DECISIONS.md).
+    #[inline]
+    pub fn at(
+        &self,
+        index: usize, // of the row, from 0
+    ) -> T
+        ensures { result ≡ get_or self.now.items index T.blank }
+    {
+        if index < self.count {
+            self.places[index]
+        } else {
+            T::blank()
+        }
     }
 
     // A row behind the others. There must be room.

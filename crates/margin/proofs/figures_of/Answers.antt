@@ -4,7 +4,7 @@ use native.Mathlib.Omega.{arith}
 use mathlib.Core.Path.{ap, ◌∙◌}
 use lib.ListN.{length}
 use Rattle.margin.specs.Figures.{currency_at}
-use Rattle.margin.proofs.Positions.{opens, total_is, total_small, book_is, book_small}
+use Rattle.margin.proofs.Positions.{over_slice, opens, total_is, total_small, book_is, book_small}
 use Rattle.margin.proofs.Forwards.{ranks_many, ranks_pushed}
 use Rattle.margin.proofs.figures_of.Goals as goal
 
@@ -12,7 +12,7 @@ pub openings_of-openings-requires : goal.openings_of-openings-requires
 openings_of-openings-requires c =
     let trades = c.as_slice-trades.ensures in
     let securities = c.as_slice-securities.ensures in
-    opens c.args.tables.now c.requires trades.value securities.value trades.fits securities.fits c.sums_of.ensures
+    opens c.args.tables.now c.requires trades.value securities.value trades.fits securities.fits (over_slice c.sums_of.ensures securities.value)
 
 pub currency_of-requires-clause-amounts : goal.currency_of-requires-clause-amounts
 currency_of-requires-clause-amounts c =
@@ -21,8 +21,8 @@ currency_of-requires-clause-amounts c =
     let low : rank < 8 = omega (arith, c.len-rank-end.ensures.fits) in
     let trades = c.as_slice-trades.ensures in
     let securities = c.as_slice-securities.ensures in (
-      book_small t c.requires trades.value securities.value trades.fits securities.fits c.sums_of.ensures c.openings_of-openings.ensures rank low _,
-      total_small t c.requires trades.value securities.value trades.fits securities.fits c.sums_of.ensures rank,
+      book_small t c.requires trades.value securities.value trades.fits securities.fits (over_slice c.sums_of.ensures securities.value) c.openings_of-openings.ensures rank low _,
+      total_small t c.requires trades.value securities.value trades.fits securities.fits (over_slice c.sums_of.ensures securities.value) rank,
     )
 
 pub push-requires : goal.push-requires
@@ -47,6 +47,6 @@ loop-rank-preserved c =
     ∙ rw (
       c.as_slice-classes.ensures.value,
       c.as_slice-priorities.ensures.value,
-      total_is t c.requires trades.value securities.value trades.fits securities.fits c.sums_of.ensures rank,
-      book_is t c.requires trades.value securities.value trades.fits securities.fits c.sums_of.ensures c.openings_of-openings.ensures rank low _,
+      total_is t c.requires trades.value securities.value trades.fits securities.fits (over_slice c.sums_of.ensures securities.value) rank,
+      book_is t c.requires trades.value securities.value trades.fits securities.fits (over_slice c.sums_of.ensures securities.value) c.openings_of-openings.ensures rank low _,
     ))

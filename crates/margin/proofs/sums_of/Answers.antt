@@ -6,17 +6,13 @@ use mathlib.Core.Path.{◌≡◌, ap, ◌∙◌}
 use lib.IntN.{ℤ, pos, nat_abs, ◌+ℤ◌}
 use lib.ListN.{length, get_or, drop, length-drop}
 use lib.Seq.{drop-length}
-use denote.Bor.{Bor}
 use mir.Syntax.{w64}
 use mir.Val.{to_z, of_z}
-use Rattle.std.specs.Prelude.{Option, None, Some}
-use Rattle.std.specs.Option.{UnwrapsOrElse, unwrap_or, option_copied}
-use Rattle.std.specs.Slice.{IsItemAt}
 use Rattle.paper.specs.Lists.{Each}
 use Rattle.paper.specs.Bounds.{most_mark, most_net_cents, most_mark_sum}
 use Rattle.paper.proofs.Lists.{each_at}
 use Rattle.whole.proofs.Signs.{read_back}
-use Rattle.tables.specs.Blanks.{no_security, no_trade}
+use Rattle.tables.specs.Blanks.{no_trade}
 use Rattle.tables.specs.declared.Security.{Security}
 use Rattle.tables.specs.declared.Trade.{Trade}
 use Rattle.valuation.specs.Valued.{value_of}
@@ -27,17 +23,6 @@ use Rattle.margin.proofs.Backwards.{each_drop, drop_before, made_none, made_more
 use Rattle.margin.proofs.Values.{worths_most, totals_most}
 use Rattle.margin.proofs.Gathered.{gathered_length, gathered_more}
 use Rattle.margin.proofs.sums_of.Goals as goal
-
--- What is read by default, where one thing alone is a default
-unwrapped : {A : Type 0} {P : A → Type 0} (o : Option A) {r : A} → UnwrapsOrElse o P r → (none : A) → ((a : A) → P a → a ≡ none) → r ≡ unwrap_or o none
-unwrapped None {r = r} h none only = only r h
-unwrapped (Some a) h none only = h
-
--- The security that is read at a place, where that of zeros alone is a default
-security_is : {P : Security → Type 0} (ss : List Security) (place : ℕ) (found : Option (Bor Security)) {o : Option Security} {r : Security}
-    → IsItemAt ss place found → o ≡ option_copied found → UnwrapsOrElse o P r → ((s : Security) → P s → s ≡ no_security) → r ≡ get_or ss place no_security
-security_is ss place found {o = o} item copied h only =
-    unwrapped o h no_security only ∙ ap (λ (o : Option Security). unwrap_or o no_security) copied ∙ item.4 (omega arith) no_security
 
 -- A figure of a trade, in cents, that is within the table of bounds
 module _ (figure : Valued → ℤ) {v w : Valued} (e : v ≡ w) (small : nat_abs (figure w) ≤ most_mark) where
@@ -76,47 +61,47 @@ pub loop-i-init : goal.loop-i-init
 loop-i-init c =
     let none = drop-length c.args.trades.now in
     record {
-      marks = made_none (λ t. (value_in c.args.securities.now t).mark) c.args.trades.now no_trade 500 (pos 0) c.requires.0;
+      marks = made_none (λ t. (value_in c.args.securities.now.items t).mark) c.args.trades.now no_trade 500 (pos 0) c.requires.0;
       worths = rw none;
       totals = rw none;
     }
 
 pub value_of-valued-requires : goal.value_of-valued-requires
 value_of-valued-requires c =
-    let ss = c.args.securities.now in
+    let ss = c.args.securities.now.items in
     let l = c.loop-i in
-    let security = security_is ss (get_or c.args.trades.now (l.i - 1) no_trade).security c.get.result c.get.ensures.lookup c.copied.ensures c.unwrap_or_default-security.ensures (λ s h. grind (arith, h)) in
+    let security = c.at-security.ensures in
     rw security (placed ss c.requires.0 c.requires.1 l.i c.loop-i-test.true l.auto.i).ranged
 
 pub add_to-requires : goal.add_to-requires
 add_to-requires c =
-    let ss = c.args.securities.now in
+    let ss = c.args.securities.now.items in
     let l = c.loop-i in
     let own = placed ss c.requires.0 c.requires.1 l.i c.loop-i-test.true l.auto.i in
     let small = within ss c.requires.0 c.requires.1 l.i c.loop-i-test.true l.auto.i in
     let fit = worths_fit ss c.requires.0 c.requires.1 l.i (get_or c.args.trades.now (l.i - 1) no_trade).security in
-    let security = security_is ss (get_or c.args.trades.now (l.i - 1) no_trade).security c.get.result c.get.ensures.lookup c.copied.ensures c.unwrap_or_default-security.ensures (λ s h. grind (arith, h)) in
+    let security = c.at-security.ensures in
     figure_adds (λ v. v.worth) (c.value_of-valued.ensures ∙ ap (value_of (get_or c.args.trades.now (l.i - 1) no_trade)) security) small.0 l.invariant.worths _ (omega (arith, own.security, fit.0)) (omega (arith, fit.1))
 
 pub add_to-requires-in-loop-i : goal.add_to-requires-in-loop-i
 add_to-requires-in-loop-i c =
-    let ss = c.args.securities.now in
+    let ss = c.args.securities.now.items in
     let l = c.loop-i in
     let own = placed ss c.requires.0 c.requires.1 l.i c.loop-i-test.true l.auto.i in
     let small = within ss c.requires.0 c.requires.1 l.i c.loop-i-test.true l.auto.i in
     let fit = totals_fit ss c.requires.0 c.requires.1 l.i (security_in ss (get_or c.args.trades.now (l.i - 1) no_trade)).currency in
-    let security = security_is ss (get_or c.args.trades.now (l.i - 1) no_trade).security c.get.result c.get.ensures.lookup c.copied.ensures c.unwrap_or_default-security.ensures (λ s h. grind (arith, h)) in
+    let security = c.at-security.ensures in
     rw security (figure_adds (λ v. v.mark) (c.value_of-valued.ensures ∙ ap (value_of (get_or c.args.trades.now (l.i - 1) no_trade)) security) small.1 l.invariant.totals _ (omega (arith, own.currency, fit.0)) (omega (arith, fit.1)))
 
 pub loop-i-preserved : goal.loop-i-preserved
 loop-i-preserved c =
     let ts = c.args.trades.now in
-    let ss = c.args.securities.now in
+    let ss = c.args.securities.now.items in
     let l = c.loop-i in
     let low = c.loop-i-test.true in
     let own = get_or ts (l.i - 1) no_trade in
     let small = within ss c.requires.0 c.requires.1 l.i low l.auto.i in
-    let security = security_is ss (get_or c.args.trades.now (l.i - 1) no_trade).security c.get.result c.get.ensures.lookup c.copied.ensures c.unwrap_or_default-security.ensures (λ s h. grind (arith, h)) in
+    let security = c.at-security.ensures in
     let value = c.value_of-valued.ensures ∙ ap (value_of own) security in
     let worth = figure_is (λ v. v.worth) value small.0 in
     let mark = figure_is (λ v. v.mark) value small.1 in
@@ -130,7 +115,7 @@ loop-i-preserved c =
 pub returns : goal.returns
 returns c =
     let ts = c.args.trades.now in
-    let ss = c.args.securities.now in
+    let ss = c.args.securities.now.items in
     let l = c.loop-i in
     let none : l.i ≡ 0 = omega arith in
     let marks = l.invariant.marks ∙ made_all (λ t. (value_in ss t).mark) ts no_trade 500 (pos 0) c.requires.0 l.i none in

@@ -11,7 +11,7 @@ use Rattle.margin.proofs.sums_of.Given as goal
 abbrev pub invariant-loop-i : goal.invariant-loop-i
 invariant-loop-i l =
     record {
-      marks : l.sums.marks ≡ filled_from 500 (pos 0) (map (λ t. (value_in l.securities t).mark) l.trades) l.i;
-      worths : l.sums.worths ≡ (sums_of l.securities (drop l.i l.trades)).worths;
-      totals : l.sums.totals ≡ (sums_of l.securities (drop l.i l.trades)).totals;
+      marks : l.sums.marks ≡ filled_from 500 (pos 0) (map (λ t. (value_in l.securities.items t).mark) l.trades) l.i;
+      worths : l.sums.worths ≡ (sums_of l.securities.items (drop l.i l.trades)).worths;
+      totals : l.sums.totals ≡ (sums_of l.securities.items (drop l.i l.trades)).totals;
     }

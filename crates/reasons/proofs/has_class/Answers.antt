@@ -19,11 +19,12 @@ first_or n c cs = go (eqb c.class n) refl
     go true e = rw (e, first_that)
     go false e = rw (e, first_that)
 
-pub returns-then-class-gt40 : goal.returns-then-class-gt40
-returns-then-class-gt40 c =
-    or_is (λ cs. has_class (map paper_class cs) c.args.class) (λ row. eqb row.class c.args.class) refl (first_or c.args.class) c.args.classes.now.items no_class _
-    (search rules)
-    (search rules)
+-- Of the rows from one on, it is the first that has it, or those behind it
+drop_or : (n : ℕ) (cs : List ClassRow) (i : ℕ) → i < length cs
+    → has_class (map paper_class (drop i cs)) n ≡ (eqb (get_or cs i no_class).class n || has_class (map paper_class (drop (i + 1) cs)) n)
+drop_or n cs i h =
+    ap (λ (cs : List ClassRow). has_class (map paper_class cs) n) (drop-cons cs i no_class h ∙ ap (λ (k : ℕ). get_or cs i no_class ∷ drop k cs) (sym (add-one i)))
+    ∙ first_or n (get_or cs i no_class) (drop (i + 1) cs)
 
 pub returns : goal.returns
 returns c =

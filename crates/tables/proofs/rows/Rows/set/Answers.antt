@@ -1,8 +1,7 @@
 -- `Rows::set` meets its contract: the row is one of those in front, so that blanks stand behind them as before.
 use native.Mathlib.Omega.{arith}
-use mathlib.Core.Path.{◌≡◌, ap, sym, ◌∙◌}
+use mathlib.Core.Path.{ap}
 use Rattle.std.proofs.lemmas.List.{length-take-le}
-use lib.ListN.{set}
 use lib.Seq.{take-set-lt}
 use Rattle.arrayvec.specs.ArrayVec.{array_vec_len}
 use Rattle.tables.proofs.Padded.{filled_set}
