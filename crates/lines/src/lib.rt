@@ -13,8 +13,7 @@ use tables::{Code, Money};
 // Handed on beside the buffer: no plainer in a struct that holds both, whose every clause would have to say that it holds the same one.
 pub type Place = usize; // in the report, bytes
 
-// A text as it is. Byte by byte, as std's copy of a slice casts an address to a number, which 32-bit code reads otherwise
-// (docs/DECISIONS.md).
+// A text as it is, byte by byte: std's copy of a slice casts addresses to numbers, which differ in 32-bit code (docs/DECISIONS.md).
 #[inline(always)]
 fn put(report: &mut [u8], at: Place, text: &[u8]) -> Place
     requires { at + length text.now ≤ length report.old }

@@ -87,8 +87,8 @@ opening_most t ranged trades securities =
     book_most t.securities.rows.items (trade_sums t).worths (table_worths_most t ranged trades) (length t.securities.rows.items) 0 securities
 
 -- Sums over rows are those over a slice of them
-pub over_slice : {ts : List Trade} {ss rows : List Security} {sums : Sums} → sums ≡ sums_of rows ts → ss ≡ rows → sums ≡ sums_of ss ts
-over_slice {ts = ts} summed same = summed ∙ ap (λ (ss : List Security). sums_of ss ts) (sym same)
+pub over_slice : (ts : List Trade) {ss rows : List Security} {sums : Sums} → sums ≡ sums_of rows ts → ss ≡ rows → sums ≡ sums_of ss ts
+over_slice ts summed same = summed ∙ ap (λ (ss : List Security). sums_of ss ts) (sym same)
 
 -- Slices that are the rows of tables, and their sums
 module _ (t : Tables) (ranged : TablesRanged t) {ts : List Trade} {ss : List Security} (trades : ts ≡ t.trades.items)

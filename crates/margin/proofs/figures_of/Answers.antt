@@ -12,7 +12,7 @@ pub openings_of-openings-requires : goal.openings_of-openings-requires
 openings_of-openings-requires c =
     let trades = c.as_slice-trades.ensures in
     let securities = c.as_slice-securities.ensures in
-    opens c.args.tables.now c.requires trades.value securities.value trades.fits securities.fits (over_slice c.sums_of.ensures securities.value)
+    opens c.args.tables.now c.requires trades.value securities.value trades.fits securities.fits (over_slice _ c.sums_of.ensures securities.value)
 
 pub currency_of-requires-clause-amounts : goal.currency_of-requires-clause-amounts
 currency_of-requires-clause-amounts c =
@@ -21,8 +21,8 @@ currency_of-requires-clause-amounts c =
     let low : rank < 8 = omega (arith, c.len-rank-end.ensures.fits) in
     let trades = c.as_slice-trades.ensures in
     let securities = c.as_slice-securities.ensures in (
-      book_small t c.requires trades.value securities.value trades.fits securities.fits (over_slice c.sums_of.ensures securities.value) c.openings_of-openings.ensures rank low _,
-      total_small t c.requires trades.value securities.value trades.fits securities.fits (over_slice c.sums_of.ensures securities.value) rank,
+      book_small t c.requires trades.value securities.value trades.fits securities.fits (over_slice _ c.sums_of.ensures securities.value) c.openings_of-openings.ensures rank low _,
+      total_small t c.requires trades.value securities.value trades.fits securities.fits (over_slice _ c.sums_of.ensures securities.value) rank,
     )
 
 pub push-requires : goal.push-requires
@@ -47,6 +47,6 @@ loop-rank-preserved c =
     ∙ rw (
       c.as_slice-classes.ensures.value,
       c.as_slice-priorities.ensures.value,
-      total_is t c.requires trades.value securities.value trades.fits securities.fits (over_slice c.sums_of.ensures securities.value) rank,
-      book_is t c.requires trades.value securities.value trades.fits securities.fits (over_slice c.sums_of.ensures securities.value) c.openings_of-openings.ensures rank low _,
+      total_is t c.requires trades.value securities.value trades.fits securities.fits (over_slice _ c.sums_of.ensures securities.value) rank,
+      book_is t c.requires trades.value securities.value trades.fits securities.fits (over_slice _ c.sums_of.ensures securities.value) c.openings_of-openings.ensures rank low _,
     ))

@@ -6,13 +6,13 @@ pub openings_of-openings-requires : goal.openings_of-openings-requires
 openings_of-openings-requires c =
     let trades = c.as_slice-trades.ensures in
     let securities = c.as_slice-securities.ensures in
-    opens c.args.tables.now c.requires.0 trades.value securities.value trades.fits securities.fits (over_slice c.sums_of.ensures securities.value)
+    opens c.args.tables.now c.requires.0 trades.value securities.value trades.fits securities.fits (over_slice _ c.sums_of.ensures securities.value)
 
 pub returns-clause-amounts : goal.returns-clause-amounts
 returns-clause-amounts c =
     let trades = c.as_slice-trades.ensures in
     let securities = c.as_slice-securities.ensures in
-    opened_small c.args.tables.now c.requires.0 trades.value securities.value trades.fits securities.fits (over_slice c.sums_of.ensures securities.value) c.openings_of-openings.ensures
+    opened_small c.args.tables.now c.requires.0 trades.value securities.value trades.fits securities.fits (over_slice _ c.sums_of.ensures securities.value) c.openings_of-openings.ensures
     c.args.rank
     c.requires.1
     _

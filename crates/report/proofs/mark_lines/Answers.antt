@@ -1,14 +1,9 @@
 -- `report::mark_lines` meets its contract: in a turn the trade at hand is the row at its place.
-use Rattle.std.proofs.Common.{rules, ℕ, zero, suc, ◌+◌, ◌≤◌, arith, Option, None, Some, List, ◌≡◌, refl, ◌∙◌, pos, length, get_or}
-use denote.Ref.{Bor}
+use Rattle.std.proofs.Common.{rules, ℕ, zero, suc, ◌+◌, ◌≤◌, arith, List, refl, pos, length, get_or}
 use mir.Syntax.{w64}
 use mir.Val.{SFits}
 use mir.ValLaws.{to_z-of_z}
-use Rattle.std.specs.Option.{UnwrapsOrElse, option_copied, unwrap_or}
-use Rattle.std.specs.Slice.{IsItemAt}
 use Rattle.paper.specs.Lists.{Each, nil, cons}
-use Rattle.tables.specs.Blanks.{no_security, no_trade}
-use Rattle.tables.specs.declared.Security.{Security}
 use Rattle.report.specs.Texts.{mark_text}
 use Rattle.report.proofs.Loops.{texts, turn_room, turn}
 use Rattle.report.proofs.mark_lines.Goals as goal
