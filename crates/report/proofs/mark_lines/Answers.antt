@@ -16,7 +16,7 @@ each_any (suc n) other none (cons p rest) = each_any n other none rest
 
 pub put_mark-at-requires-clause-currency : goal.put_mark-at-requires-clause-currency
 put_mark-at-requires-clause-currency c =
-    rw c.at.ensures (each_any c.at-security.result.currency 0 (omega arith) c.requires.writable.money)
+    rw c.at.ensures (each_any _ 0 (omega arith) c.requires.writable.money)
 
 pub put_mark-at-requires-clause-room : goal.put_mark-at-requires-clause-room
 put_mark-at-requires-clause-room c =
