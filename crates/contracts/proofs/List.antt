@@ -1,10 +1,10 @@
 -- Every public function of every crate: two answers that its contract allows are equal. The functions that are lent what they
--- write fix that too.
+-- write fix that too. What reads fixes what is read of a reader whose bytes are known.
 use Prim.Native.Nat.{ℕ}
 use Rattle.offsetting.specs.Books.{book_of}
 use Rattle.paper.specs.Units.{Text}
 use Rattle.lines.specs.Written.{Place}
-use Rattle.contracts.proofs.Fixed.{FixesSeen, FixesRows, Fixes, one, both}
+use Rattle.contracts.proofs.Fixed.{FixesSeen, FixesRows, FixesRead, Fixes, one, both}
 use Rattle.whole.proofs.nearest.Reads as whole_nearest
 use Rattle.whole.proofs.least.Reads as whole_least
 use Rattle.whole.proofs.greatest.Reads as whole_greatest
@@ -86,6 +86,7 @@ use Rattle.shown.proofs.show.Reads as shown_show
 use Rattle.shown.proofs.show_why.Reads as shown_show_why
 use Rattle.given.proofs.is_there.Reads as given_is_there
 use Rattle.given.proofs.word.Reads as given_word
+use Rattle.given.proofs.read_full.Reads as given_read_full
 
 pub whole_nearest_fixed : Fixes whole_nearest.Post
 whole_nearest_fixed κs a x y s u p q = one p q
@@ -329,3 +330,6 @@ given_is_there_fixed κs a x y s u p q = one p q
 
 pub given_word_fixed : FixesSeen given_word.Post {B = Text} (λ κs x s. x.now)
 given_word_fixed κs a x y s u p q = one p q
+
+pub given_read_full_fixed : FixesRead given_read_full.Post
+given_read_full_fixed R laws g dict κs a x y s u bytes known p q = both (rw known at p.1.0) (rw known at q.1.0)
