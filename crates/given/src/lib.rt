@@ -1,5 +1,5 @@
 // What a program is given: the words of its call, and the bytes of a reader. What the system answers for a word is handed in, so
-// that what is made of it is fixed; what is read is, where the reader's bytes are known.
+// that what is made of it is fixed; what is read is, where the reader's bytes are known and no read fails.
 #![tactic(auto)]
 
 ghost use Rattle.std.specs.Prelude.{◌≡◌, ◌≤◌, ℕ, List, IfOk, OnErr, length, take};
@@ -85,7 +85,7 @@ mod tests {
         Ok(())
     }
 
-    // The reader's error comes back as it is, also behind bytes that were read.
+    // The reader's error comes back, also behind bytes that were read.
     #[test]
     fn failed(rt: HostRuntime) {
         let mut room = [b'-'; 8];
