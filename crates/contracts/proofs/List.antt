@@ -1,9 +1,11 @@
 -- Every public function of every crate: two answers that its contract allows are equal. The functions that are lent what they
 -- write fix that too. What reads fixes what is read of a reader whose bytes are known.
 use Prim.Native.Nat.{ℕ}
+use mathlib.Core.Path.{ap₂}
 use Rattle.offsetting.specs.Books.{book_of}
 use Rattle.paper.specs.Units.{Text}
 use Rattle.lines.specs.Written.{Place}
+use Rattle.given.proofs.Reading.{gave_once}
 use Rattle.contracts.proofs.Fixed.{FixesSeen, FixesRows, FixesRead, Fixes, one, both}
 use Rattle.whole.proofs.nearest.Reads as whole_nearest
 use Rattle.whole.proofs.least.Reads as whole_least
@@ -332,4 +334,6 @@ pub given_word_fixed : FixesSeen given_word.Post {B = Text} (λ κs x s. x.now)
 given_word_fixed κs a x y s u p q = one p q
 
 pub given_read_full_fixed : FixesRead given_read_full.Post
-given_read_full_fixed R laws g dict κs a x y s u bytes known p q = both (rw known at p.1.0) (rw known at q.1.0)
+given_read_full_fixed R laws g dict κs a x y s u bytes known p q =
+    let (same, left) = gave_once _ bytes x.now y.now (g.remaining s.0.now) (g.remaining u.0.now) (rw known at p.1.0) (rw known at q.1.0) in
+    ap₂ (λ text others. (text, others)) same left

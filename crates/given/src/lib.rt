@@ -28,7 +28,8 @@ pub fn word(asked: Result<usize, FillError>, room: &[u8]) -> &[u8]
     &room[..asked.unwrap_or(0)]
 }
 
-// Reads until the room is full or the input ends, and gives what it read.
+// Reads until the room is full or the input ends, and gives what it read. The programs have one each, which is not public
+// (docs/CONTRACTS.md).
 #[tactic(auto, using(crate::proofs::Reading::read_on, crate::proofs::Reading::read_all))]
 pub fn read_full<'a, R: Read>(input: &mut R, room: &'a mut [u8]) -> io::Result<&'a [u8]>
     ensures within { IfOk result (λ text. length text.now ≤ length room.old) }
